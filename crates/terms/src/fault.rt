@@ -1,0 +1,60 @@
+ghost use mathlib.Core.Path.{_≡_};
+ghost use Rattle.terms.specs.Faults.{raised, cause-number};
+
+// Why a reading has no height.
+#[derive(Clone, Copy, PartialEq, Eq, Debug)]
+pub enum Cause {
+    // The position is beyond the gauge's last one.
+    Beyond,
+    // The gauge has no reading there.
+    Unread,
+}
+
+// A reading that has no height.
+#[derive(Clone, Copy, PartialEq, Eq, Debug)]
+pub struct Fault {
+    pub cause: Cause,
+    // The position asked.
+    pub position: u32,
+    // The name of the gauge that failed; 0 stands for a layer.
+    pub gauge: u8,
+    // The number of layers that it came up through, at most 255.
+    pub layers: u8,
+}
+
+// A fault from below that has come up through one more layer. `?` makes it of the lower gauge's fault, and the layer's own fault of it.
+#[derive(Clone, Copy, Drop)]
+pub struct Raised(pub Fault);
+
+pub impl From<Fault> for Raised as RaisedFromFault {
+    ghost converts = { λ f r. r .0 ≡ raised f };
+
+    fn from(fault: Fault) -> Raised {
+        Raised(Fault {
+            cause: fault.cause,
+            position: fault.position,
+            gauge: fault.gauge,
+            layers: fault.layers.saturating_add(1),
+        })
+    }
+}
+
+pub impl From<Raised> for Fault as FaultFromRaised {
+    ghost converts = { λ r f. f ≡ r .0 };
+
+    fn from(raised: Raised) -> Fault {
+        raised.0
+    }
+}
+
+impl Cause {
+    // The number of each cause.
+    pub fn number(&self) -> u8
+        ensures { λ r. ⌜ r ≡ cause-number (now (self .entry)) ⌝ }
+    {
+        match self {
+            Cause::Beyond => 1,
+            Cause::Unread => 2,
+        }
+    }
+}
