@@ -23,6 +23,8 @@ use fields::field;
 use heights::checks;
 use terms::refusal::Refusal;
 
+pub mod reads;
+
 // The tests of the length that the last position calls for, and of the pad bits.
 fn check_shape(bytes: &[u8], last: usize) -> Result<(), Refusal>
     requires { ⌜ last ≤ last-max ⌝ }

@@ -1,7 +1,6 @@
 use Prim.Native.Nat.{ℕ, _+_, _-_, _*_, _/_, _%_, _^_, _<_}
 use mathlib.Core.Path.{_≡_, ap, _∙_, subst}
 use native.Mathlib.Omega.{arith}
-use Rattle.std.proofs.shelf.Bits.{and-mask}
 use Rattle.fields.specs.Bits.{bit, field-of}
 use Rattle.fields.proofs.Laws.{num-value}
 use Rattle.fields.proofs.Puts.{Put, put-none, put-more}
@@ -12,7 +11,7 @@ pub loop-k-holds : need.loop-k-holds
 loop-k-holds c = put-none _ _ _ _
 
 pub loop-k-again : need.loop-k-again
-loop-k-again c = simp (c .stamp .ensures) (put-more _ _ _ _ _ _ (c .loop-k .inv) _ (and-mask _ 1) (omega arith))
+loop-k-again c = simp (c .put-bit .ensures) (put-more _ _ _ _ _ _ (c .loop-k .inv) _ (c .bit-of .ensures .is) (omega arith))
 
 pub returns : need.returns
 unfolding field-of

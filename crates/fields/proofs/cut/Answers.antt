@@ -5,14 +5,14 @@ use lib.Bits.{bitAnd}
 use Rattle.std.proofs.shelf.Bits.{and-mask, one-shl}
 use Rattle.fields.specs.Bits.{field-of}
 use Rattle.fields.proofs.Laws.{field-inside, field-lt}
-use Rattle.fields.proofs.field.Needs as need
+use Rattle.fields.proofs.cut.Needs as need
 
 pub returns : need.returns
 returns c =
     let bs = c .args .bytes .now in
     let a : ℕ = c .args .at in
     let w : ℕ = c .args .width in
-    let e : ℕ = (a + w + 7) / 8 in
+    let e : ℕ = c .args .end in
     let r : ℕ = 8 * e - a - w in
     let v : ℕ = c .whole-bytes-whole .result in
     let q : bitAnd (v / 2 ^ r) ((1 * 2 ^ w) % 2 ^ 32 - 1) ≡ field-of bs a w =
