@@ -38,7 +38,7 @@ fn write_fields(buf: &mut [u8], slope: u32, slack: u32, heights: &[i32])
 }
 
 // The number of bytes that a sheet's record takes, where the sheet is lawful and that many are there.
-fn room_for(slope: u32, slack: u32, heights: &[i32], room: usize) -> Result<usize, Refusal>
+fn size_within(slope: u32, slack: u32, heights: &[i32], room: usize) -> Result<usize, Refusal>
     ensures { λ r. ⌜ r ≡ write-verdict (sheet-with slope slack (now (heights .entry))) room ⌝ }
 {
     check_sheet(&Lent { heights }, slope, slack)?;
@@ -47,6 +47,15 @@ fn room_for(slope: u32, slack: u32, heights: &[i32], room: usize) -> Result<usiz
         return Err(Refusal::BufferTooShort);
     }
     Ok(size)
+}
+
+// The same answer, with what makes a record worth writing: a lawful sheet has no other.
+fn room_for(slope: u32, slack: u32, heights: &[i32], room: usize) -> Result<usize, Refusal>
+    ensures answer { λ r. ⌜ r ≡ write-verdict (sheet-with slope slack (now (heights .entry))) room ⌝ }
+    ensures unique { λ _. ⌜ One-record-each ⌝ }
+    ensures examples { λ _. ⌜ Record-examples ⌝ }
+{
+    size_within(slope, slack, heights, room)
 }
 
 // Writes a sheet's record to the front of `buf` and answers how many bytes it has; a refused sheet leaves `buf` as it was.
