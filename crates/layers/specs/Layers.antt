@@ -4,21 +4,20 @@ use Prim.Native.Nat.{ℕ, _+_, _-_, min, max}
 use lib.Dec.{eqb, ltb}
 use lib.IntN.{ℤ, pos, negℤ, _+ℤ_, _-ℤ_}
 use Rattle.std.specs.Numbers.{maxZ, minZ, remEuclid}
-use Rattle.std.specs.declared.option.Option.{Option}
-use Rattle.std.specs.declared.option.Option.the-variants.{Some, None}
-use Rattle.terms.specs.declared.refusal.Refusal.{Refusal}
+use Rattle.std.specs.declared.result.Result.the-variants.{Ok, Err}
 use Rattle.terms.specs.declared.refusal.Refusal.the-variants.{StepOutOfRange}
 use Rattle.terms.specs.Limits.{slope-max, slack-max, step-max, lowest-height, highest-height}
 use Rattle.terms.specs.Meaning.{Meaning}
+use Rattle.heights.specs.Verdicts.{Verdict}
 use Rattle.gauges.specs.Layering.{over-meaning, join-meaning}
 
 -- flip: the negated height; slope, slack and last stay
 abbrev pub flip-meaning : Meaning → Meaning
 flip-meaning m = over-meaning negℤ (m .slack) m
 
--- the refusal of a step outside 1 to 1,000
-abbrev pub step-refusal : ℕ → Option Refusal
-step-refusal q = cond (eqb q 0 || ltb step-max q) (Some StepOutOfRange) None
+-- what the test of a step answers: a refusal outside 1 to 1,000
+abbrev pub step-verdict : ℕ → Verdict
+step-verdict q = cond (eqb q 0 || ltb step-max q) (Err StepOutOfRange) (Ok tt)
 
 -- the height less its remainder by the step, which is from 0 to step - 1
 abbrev pub rounded-down : ℕ → ℤ → ℤ

@@ -1,10 +1,10 @@
 ghost use mathlib.Core.Path.{_≡_};
 ghost use Prim.Native.Nat.{_-_, _≤_};
 ghost use Rattle.std.specs.Results.{Cases};
-ghost use Rattle.std.specs.declared.option.Option.the-variants.{Some, None};
+ghost use Rattle.std.specs.declared.result.Result.the-variants.{Ok, Err};
 ghost use Rattle.terms.specs.Limits.{step-max};
 ghost use Rattle.terms.specs.Meaning.{Height};
-ghost use Rattle.layers.specs.Layers.{rounded-down, coarse-height, step-refusal};
+ghost use Rattle.layers.specs.Layers.{rounded-down, coarse-height, step-verdict};
 use terms::limits::HEIGHT_MAX;
 use terms::limits::STEP_MAX;
 use terms::refusal::Refusal;
@@ -19,7 +19,7 @@ pub struct Step {
 impl Step {
     // The step of that size, if its test does not refuse it.
     pub fn new(size: u32) -> Result<Step, Refusal>
-        ensures { λ r. ⌜ Cases r (λ s. (step-refusal size ≡ None) × (s .size ≡ size)) (λ e. step-refusal size ≡ Some e) ⌝ }
+        ensures { λ r. ⌜ Cases r (λ s. (step-verdict size ≡ Ok tt) × (s .size ≡ size)) (λ e. step-verdict size ≡ Err e) ⌝ }
     {
         if size == 0 || size > STEP_MAX {
             return Err(Refusal::StepOutOfRange);
