@@ -2,3 +2,5 @@
 pub mod gauge;
 pub mod table;
 pub mod tent;
+#[cfg(test)]
+mod tests;

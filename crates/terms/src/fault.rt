@@ -87,3 +87,27 @@ impl Cause {
         }
     }
 }
+
+#[cfg(test)]
+mod tests {
+    use super::*;
+    use std::test::*;
+
+    // 300 layers count to 255, and all else of the fault stays.
+    #[test]
+    fn layers_stay_at_255() -> Result<(), Fail> {
+        let mut fault = Fault::unread(7, 3);
+        for _ in 0..300 {
+            fault = Fault::from(Raised::from(fault));
+        }
+        check_eq(
+            fault,
+            Fault {
+                cause: Cause::Unread,
+                position: 7,
+                gauge: 3,
+                layers: 255,
+            },
+        )
+    }
+}
