@@ -4,3 +4,5 @@ pub mod flip;
 pub mod higher;
 pub mod step;
 pub mod sum;
+#[cfg(test)]
+mod tests;
