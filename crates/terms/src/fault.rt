@@ -103,10 +103,8 @@ mod tests {
         check_eq(
             fault,
             Fault {
-                cause: Cause::Unread,
-                position: 7,
-                gauge: 3,
                 layers: 255,
+                ..Fault::unread(7, 3)
             },
         )
     }
