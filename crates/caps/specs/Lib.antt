@@ -1,0 +1,7 @@
+pub mod Touches
+pub mod Stretches
+pub mod Caps
+pub mod Gaps
+pub mod Outlooks
+pub mod Crossings
+pub mod Laws
