@@ -6,13 +6,18 @@ use lib.IntN.{ℤ, pos, _+ℤ_}
 use lib.Signed.{leZ}
 use Rattle.std.specs.declared.option.Option.{Option}
 use Rattle.std.specs.declared.option.Option.the-variants.{Some, None}
+use Rattle.pick.specs.Picks.{picked}
 use Rattle.caps.specs.declared.Touch.{Touch}
 use Rattle.caps.specs.declared.Line.{Line}
 use Rattle.caps.specs.declared.Summit.{Summit}
 use Rattle.caps.specs.declared.Outlook.{Outlook}
-use Rattle.caps.specs.Stretches.{Stretch}
-use Rattle.caps.specs.Caps.{ceiling, floor}
-use Rattle.caps.specs.Gaps.{high-summit, lowest-gap-above, summit-above}
+use Rattle.caps.specs.Stretches.{Stretch, summit-of}
+use Rattle.caps.specs.Caps.{cap, ceiling, floor}
+use Rattle.caps.specs.Gaps.{mapped, high-summit, lowest-gap-above}
+
+-- the floor with its position, where something is touched: the pick of the touches by height
+abbrev pub floor-touch : List Touch → Option Touch
+floor-touch ts = picked (λ t. t .height) ts
 
 -- what the touches a and ts tell
 abbrev pub seen : Line → Touch → List Touch → Outlook
@@ -42,3 +47,7 @@ open-from line ts tolerance (Some o) = lowest-gap-above line ts (bound o toleran
 
 abbrev pub lowest-open : Line → List Touch → ℕ → Option Stretch
 lowest-open line ts tolerance = open-from line ts tolerance (outlook line ts)
+
+-- where left touches: the position of largest cap in the lowest open gap, the lowest on a tie, with its cap
+abbrev pub open-summit : Line → List Touch → ℕ → Option Summit
+open-summit line ts tolerance = mapped (summit-of (cap line ts)) (lowest-open line ts tolerance)

@@ -1,4 +1,5 @@
 // The touches of a line, and what they tell of its heights.
+use pick::Ranked;
 
 // A touched position with its height.
 #[derive(Clone, Copy, PartialEq, Eq, Debug)]
@@ -31,4 +32,22 @@ pub struct Outlook {
     pub ceiling: i32,
     // The untouched position of largest cap, the lowest on a tie; none where every position is touched.
     pub summit: Option<Summit>,
+}
+
+// Touches rank by height.
+pub impl Ranked for Touch as TouchRanked {
+    ghost level = { λ t. t .height };
+
+    fn rank(&self) -> i32 {
+        i32::from(self.height)
+    }
+}
+
+// Gaps rank by largest cap.
+pub impl Ranked for Summit as SummitRanked {
+    ghost level = { λ s. s .cap };
+
+    fn rank(&self) -> i32 {
+        self.cap
+    }
 }
