@@ -1,4 +1,5 @@
 pub mod Touches
+pub mod Places
 pub mod Stretches
 pub mod Caps
 pub mod Gaps
