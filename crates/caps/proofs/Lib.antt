@@ -13,3 +13,4 @@ pub mod Opens
 pub mod Proved
 pub mod Shifts
 pub mod Places
+pub mod Figures

@@ -1,12 +1,12 @@
 -- The place of a new touch, and the test of touches.
 use mathlib.Core.Path.{_≡_, refl, sym, ap, _∙_}
-use mathlib.Core.List.{List, [], _∷_}
+use mathlib.Core.List.{List, [], _∷_, _++_}
 use mathlib.Core.Bool.{cond}
-use Prim.Native.Nat.{ℕ, suc, _+_, _<_, _≤_}
+use Prim.Native.Nat.{ℕ, suc, _+_, _-_, _<_, _≤_}
 use native.Mathlib.Omega.{arith}
 use lib.Dec.{ltb}
 use lib.IntN.{pos}
-use lib.ListN.{length, getD, drop}
+use lib.ListN.{length, getD, take, drop}
 use Rattle.std.specs.Holes.{inserted}
 use Rattle.std.specs.shelf.Lists.{All}
 use Rattle.std.proofs.shelf.Elements.{all-weaker}
@@ -32,6 +32,14 @@ inserted-is u (t ∷ ts) =
     cond-both (ltb (u .position) (t .position)) 0 (suc (places-before (u .position) ts)) (λ k. inserted (t ∷ ts) k u ≡ insert u (t ∷ ts))
     (λ e. sym (cond-true _ _ _ e))
     (λ e. ap (λ (us : List Touch). t ∷ us) (inserted-is u ts) ∙ sym (cond-false _ _ _ e))
+
+-- A table whose first n touches u was put among.
+pub table-is : (T : List Touch) (n : ℕ) (u : Touch) (at : ℕ) (after : List Touch) → at ≡ places-before (u .position) (take (n - 0) T) →
+    after ≡ inserted (take n T) at u ++ drop (n + 1) T → after ≡ insert u (take n T) ++ drop (n + 1) T
+table-is T n u at after e is =
+    let same : n - 0 ≡ n = omega arith in
+    let here : at ≡ places-before (u .position) (take n T) = e ∙ ap (λ k. places-before (u .position) (take k T)) same in
+    is ∙ ap (λ k. inserted (take n T) k u ++ drop (n + 1) T) here ∙ ap (λ (us : List Touch). us ++ drop (n + 1) T) (inserted-is u (take n T))
 
 module _ (p : ℕ) (ts : List Touch) (i : ℕ) where
   pub before-here : i < length ts → getD ts i no-touch .position ≤ p → places-before p (drop i ts) ≡ 1 + places-before p (drop (i + 1) ts)

@@ -6,3 +6,4 @@ pub mod Gaps
 pub mod Outlooks
 pub mod Crossings
 pub mod Laws
+pub mod Figures
