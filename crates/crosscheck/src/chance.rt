@@ -25,7 +25,10 @@ impl Chance {
     }
 
     // A number from low to high; low where high is less.
-    pub fn between(&mut self, low: u16, high: u16) -> u16 {
+    pub fn between(&mut self, low: u16, high: u16) -> u16
+        ensures least { λ r. ⌜ low ≤ r ⌝ }
+        ensures most { λ r. ⌜ (low ≤ high → r ≤ high) ⌝ }
+    {
         if high <= low {
             return low;
         }

@@ -16,6 +16,18 @@ use tables::Kind;
 use tables::draw_free;
 use tables::draw_lawful;
 use tables::touch_some;
+use terms::limits::LAST_MAX;
+use terms::limits::SLACK_MAX;
+use terms::limits::SLOPE_MAX;
+
+const LAST: u16 = LAST_MAX as u16;
+
+const SLOPE: u16 = SLOPE_MAX as u16;
+
+const SLACK: u16 = SLACK_MAX as u16;
+
+// A height for each position of the longest bed.
+const SHEET: usize = LAST_MAX as usize + 1;
 
 const KINDS: [Kind; 6] = [
     Kind {
@@ -41,7 +53,7 @@ const KINDS: [Kind; 6] = [
         tables: 500,
         last: (100, 400),
         slope: (1, 300),
-        slack: (0, 40_000),
+        slack: (0, SLACK),
         draws: (1, 40),
         lawful: true,
     },
@@ -57,16 +69,16 @@ const KINDS: [Kind; 6] = [
     Kind {
         name: "steepest lines",
         tables: 200,
-        last: (3_990, 4_000),
-        slope: (39_990, 40_000),
-        slack: (39_990, 40_000),
+        last: (3_990, LAST),
+        slope: (39_990, SLOPE),
+        slack: (39_990, SLACK),
         draws: (1, 6),
         lawful: false,
     },
     Kind {
         name: "largest tables",
         tables: 12,
-        last: (4_000, 4_000),
+        last: (LAST, LAST),
         slope: (1, 60),
         slack: (0, 60),
         draws: (300, 600),
@@ -82,7 +94,7 @@ fn check_one(
     told: &mut bool,
 ) -> Result<bool, AnyError> {
     let line = kind.line(chance);
-    let mut sheet = [0; 4001];
+    let mut sheet = [0; SHEET];
     if kind.lawful {
         draw_lawful(chance, line, &mut sheet);
     } else {

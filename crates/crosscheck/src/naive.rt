@@ -27,7 +27,7 @@ fn reach(line: Line, touch: Touch, x: u16) -> i64 {
         .wrapping_add(i64::from(line.slack))
 }
 
-fn is_touched(touches: &[Touch], x: u16) -> bool {
+pub fn is_touched(touches: &[Touch], x: u16) -> bool {
     for touch in touches {
         if touch.position == x {
             return true;

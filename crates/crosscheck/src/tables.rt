@@ -2,10 +2,14 @@
 ghost use Prim.Native.Nat.{_≤_};
 ghost use lib.ListN.{length};
 use crate::chance::Chance;
+use crate::naive::is_touched;
 use caps::Line;
 use caps::Touch;
 use caps::table::insert_touch;
 use terms::limits::HEIGHT_MAX;
+
+// The highest height.
+const HIGHEST: u16 = HEIGHT_MAX as u16;
 
 // A kind of table: how many are drawn, and from what.
 #[derive(Clone, Copy)]
@@ -39,7 +43,7 @@ fn height_of(x: i32) -> i16 {
 
 // Heights that keep the law: a walk of at most the slope from position to position, and at most the slack on top.
 pub fn draw_lawful(chance: &mut Chance, line: Line, sheet: &mut [i16]) {
-    let mut base = height_of(chance.swing(10_000));
+    let mut base = height_of(chance.swing(HIGHEST));
     for slot in sheet.iter_mut() {
         base = height_of(i32::from(base) + chance.swing(line.slope));
         let over = chance.between(0, line.slack);
@@ -50,17 +54,8 @@ pub fn draw_lawful(chance: &mut Chance, line: Line, sheet: &mut [i16]) {
 // Any heights.
 pub fn draw_free(chance: &mut Chance, sheet: &mut [i16]) {
     for slot in sheet.iter_mut() {
-        *slot = height_of(chance.swing(20_000));
+        *slot = height_of(chance.swing(HIGHEST));
     }
-}
-
-fn is_touched(touches: &[Touch], x: u16) -> bool {
-    for touch in touches {
-        if touch.position == x {
-            return true;
-        }
-    }
-    false
 }
 
 // Touches positions that are drawn, in the order of the draws. Answers how many.
