@@ -1,0 +1,16 @@
+pub mod Lists
+pub mod Extremes
+pub mod Room
+pub mod Extension
+pub mod Peaks
+pub mod Possible
+pub mod Inserts
+pub mod Spacing
+pub mod Crossings
+pub mod Gaps
+pub mod Highest
+pub mod Opens
+pub mod Proved
+pub mod Shifts
+pub mod Places
+pub mod Figures

@@ -1,0 +1,4 @@
+pub mod Lowest
+pub mod Roofs
+pub mod Walks
+pub mod Views
