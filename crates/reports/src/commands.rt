@@ -40,7 +40,7 @@ fn refused(rt: &LibcRuntime, refusal: Refusal) -> Result<AnyError, AnyError> {
 }
 
 // The bytes of a file, read to the bound of records.
-pub fn read_record(rt: &LibcRuntime, path: &str) -> Result<Vec<u8>, AnyError> {
+fn read_record(rt: &LibcRuntime, path: &str) -> Result<Vec<u8>, AnyError> {
     let mut bytes = Vec::new(rt.alloc());
     fs::open(rt, path)?
         .take(RECORD_BOUND)

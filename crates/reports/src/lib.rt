@@ -1,5 +1,5 @@
 // What the program `sheet` prints, and its two commands.
 pub mod arguments;
 pub mod commands;
-pub mod report;
+mod report;
 pub mod stack;

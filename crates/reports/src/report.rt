@@ -25,7 +25,7 @@ fn put_spot(out: &mut String, which: &str, spot: Option<Spot>) -> fmt::Result {
 }
 
 // Last position, slope and slack of any gauge.
-pub fn put_line<G: Gauge>(out: &mut String, gauge: &G) -> fmt::Result {
+pub(crate) fn put_line<G: Gauge>(out: &mut String, gauge: &G) -> fmt::Result {
     let last = gauge.last();
     let slope = gauge.slope();
     let slack = gauge.slack();
@@ -33,7 +33,7 @@ pub fn put_line<G: Gauge>(out: &mut String, gauge: &G) -> fmt::Result {
 }
 
 // The line, the number of readable positions, the lowest and the highest height of any gauge.
-pub fn put_summary<G: Gauge>(out: &mut String, gauge: &G) -> fmt::Result {
+fn put_summary<G: Gauge>(out: &mut String, gauge: &G) -> fmt::Result {
     put_line(out, gauge)?;
     let summary = summarize(gauge);
     let readable = summary.readable;
@@ -44,7 +44,7 @@ pub fn put_summary<G: Gauge>(out: &mut String, gauge: &G) -> fmt::Result {
 }
 
 // What an accepted record says, and that packing it again gives the same bytes.
-pub fn put_record(heap: Global, out: &mut String, bytes: &[u8], name: u8) -> Result<(), AnyError>
+pub(crate) fn put_record(heap: Global, out: &mut String, bytes: &[u8], name: u8) -> Result<(), AnyError>
     requires { ⌜ isOk (record-verdict (now bytes) name) ≡ true ⌝ }
 {
     let length = bytes.len();

@@ -59,7 +59,7 @@ fn put_reading<G: Gauge>(out: &mut String, gauge: &G, position: u32) -> fmt::Res
 }
 
 // Last, slope and slack of any gauge, and its readings at the first, the middle, the last position and one beyond.
-pub fn put_gauge<G: Gauge>(out: &mut String, gauge: &G) -> fmt::Result {
+fn put_gauge<G: Gauge>(out: &mut String, gauge: &G) -> fmt::Result {
     put_line(out, gauge)?;
     let last = gauge.last();
     put_reading(out, gauge, 0)?;
@@ -90,7 +90,7 @@ fn put_stepped<G: Gauge + Drop>(
 }
 
 // The gauge under the layers that are asked for, from the lowest on.
-pub fn put_stack<G: Gauge + Drop>(
+pub(crate) fn put_stack<G: Gauge + Drop>(
     out: &mut String,
     gauge: G,
     layers: Layers,
