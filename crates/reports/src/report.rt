@@ -44,7 +44,12 @@ fn put_summary<G: Gauge>(out: &mut String, gauge: &G) -> fmt::Result {
 }
 
 // What an accepted record says, and that packing it again gives the same bytes.
-pub(crate) fn put_record(heap: Global, out: &mut String, bytes: &[u8], name: u8) -> Result<(), AnyError>
+pub(crate) fn put_record(
+    heap: Global,
+    out: &mut String,
+    bytes: &[u8],
+    name: u8,
+) -> Result<(), AnyError>
     requires { ⌜ isOk (record-verdict (now bytes) name) ≡ true ⌝ }
 {
     let length = bytes.len();
