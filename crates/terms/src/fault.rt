@@ -1,5 +1,5 @@
 ghost use mathlib.Core.Path.{_≡_};
-ghost use Rattle.terms.specs.Faults.{raised, cause-number};
+ghost use Rattle.terms.specs.Faults.{raised, beyond, unread, cause-number};
 
 // Why a reading has no height.
 #[derive(Clone, Copy, PartialEq, Eq, Debug)]
@@ -20,6 +20,32 @@ pub struct Fault {
     pub gauge: u8,
     // The number of layers that it came up through, at most 255.
     pub layers: u8,
+}
+
+impl Fault {
+    // The fault of the gauge of that name at a position beyond its last one.
+    pub fn beyond(position: u32, gauge: u8) -> Fault
+        ensures { λ r. ⌜ r ≡ beyond position gauge ⌝ }
+    {
+        Fault {
+            cause: Cause::Beyond,
+            position,
+            gauge,
+            layers: 0,
+        }
+    }
+
+    // The fault of the gauge of that name at a position where it has no reading.
+    pub fn unread(position: u32, gauge: u8) -> Fault
+        ensures { λ r. ⌜ r ≡ unread position gauge ⌝ }
+    {
+        Fault {
+            cause: Cause::Unread,
+            position,
+            gauge,
+            layers: 0,
+        }
+    }
 }
 
 // A fault from below that has come up through one more layer. `?` makes it of the lower gauge's fault, and the layer's own fault of it.

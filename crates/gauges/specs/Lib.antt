@@ -1,0 +1,5 @@
+pub mod Layering
+pub mod Reach
+pub mod Tents
+pub mod TentLaw
+pub mod Made

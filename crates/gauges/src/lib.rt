@@ -1,0 +1,3 @@
+// Gauges: what each owes, and the gauges at the bottom of a stack.
+pub mod gauge;
+pub mod tent;

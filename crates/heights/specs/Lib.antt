@@ -1,0 +1,5 @@
+pub mod Heights
+pub mod Extremes
+pub mod Verdicts
+pub mod Lists
+pub mod Theorems

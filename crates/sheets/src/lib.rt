@@ -1,0 +1,3 @@
+// What the program `sheet` tells of a record, and makes of a text.
+pub mod repack;
+pub mod summary;
