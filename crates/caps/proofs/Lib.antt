@@ -11,3 +11,6 @@ pub mod Gaps
 pub mod Highest
 pub mod Opens
 pub mod Proved
+pub mod Shifts
+pub mod Places
+pub mod Figures

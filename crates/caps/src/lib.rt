@@ -1,4 +1,7 @@
 // The touches of a line, and what they tell of its heights.
+pub mod sound;
+pub mod table;
+
 use pick::Ranked;
 
 // A touched position with its height.

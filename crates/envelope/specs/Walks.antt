@@ -2,10 +2,10 @@
 use mathlib.Core.Path.{_≡_}
 use mathlib.Core.List.{List, [], _∷_, map}
 use mathlib.Core.Bool.{cond}
-use Prim.Native.Nat.{ℕ, suc, _+_, _*_, _≤_, _<_}
+use Prim.Native.Nat.{ℕ, _+_, _*_, _≤_, _<_}
 use lib.ListN.{length, getD, take, drop}
 use lib.IntN.{ℤ, pos, _+ℤ_, natAbs}
-use lib.Dec.{ltb, leb}
+use lib.Dec.{leb}
 use Rattle.std.specs.Numbers.{minZ}
 use Rattle.std.specs.shelf.Lists.{All}
 use Rattle.std.specs.declared.option.Option.{Option}
@@ -56,8 +56,3 @@ pub record Walking (line : Line) (ts : List Touch) (falls : List ℤ) (at from :
   pub before : All (λ t. t .position < from) (take at ts)
   pub after : All (λ t. from ≤ t .position) (drop at ts)
   pub near : from ≤ line .last + 1
-
--- how many touches, from the first on, lie at p or before
-abbrev pub places-before : ℕ → List Touch → ℕ
-places-before p [] = 0
-places-before p (t ∷ ts) = cond (ltb p (t .position)) 0 (suc (places-before p ts))

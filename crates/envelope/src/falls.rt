@@ -7,10 +7,7 @@ ghost use Rattle.envelope.specs.Walks.{Falls};
 use crate::peak::lower_fall;
 use caps::Line;
 use caps::Touch;
-use terms::limits::TOUCHES_MAX;
-
-// A place for each touch.
-pub(crate) const PLACES: usize = TOUCHES_MAX as usize;
+use caps::sound::PLACES;
 
 // Writes, for each place, the least of height + slope × position over the touches from there on.
 pub(crate) fn fill_falls(line: Line, touches: &[Touch], falls: &mut [i32; PLACES])

@@ -1,12 +1,13 @@
 // Floor, ceiling and the places to touch. Each call passes over the touches a fixed number of times.
 ghost use mathlib.Core.Path.{_≡_};
 ghost use Prim.Native.Nat.{_≤_, _<_};
+ghost use lib.IntN.{pos, _+ℤ_};
 ghost use lib.ListN.{length};
 ghost use Rattle.caps.specs.Touches.{Sound};
 ghost use Rattle.caps.specs.Gaps.{high-summit, summit-above};
 ghost use Rattle.caps.specs.Outlooks.{floor-touch, outlook, settled-by, open-summit};
 ghost use Rattle.caps.specs.Laws.{over, Laws-of-caps, Laws-of-gaps};
-use crate::falls::PLACES;
+ghost use Rattle.caps.specs.Figures.{Figures};
 use crate::falls::fill_falls;
 use crate::gaps::GapsSource;
 use crate::gaps::gaps_of;
@@ -16,6 +17,7 @@ use caps::Summit;
 use caps::SummitRanked;
 use caps::Touch;
 use caps::TouchRanked;
+use caps::sound::PLACES;
 use pick::WalkSource;
 use pick::each;
 use pick::first_above;
@@ -61,11 +63,19 @@ fn over_floor(floor: Touch, summit: Option<Summit>) -> i32
     }
 }
 
+// Floor + tolerance: what is above it is open.
+fn bound_over(floor: Touch, tolerance: u16) -> i32
+    ensures { λ r. ⌜ r ≡ floor .height +ℤ pos tolerance ⌝ }
+{
+    i32::from(floor.height) + i32::from(tolerance)
+}
+
 // Floor with its position, ceiling, and the untouched position of largest cap. None before the first touch.
 pub fn look(line: Line, touches: &[Touch]) -> Option<Outlook>
     requires { ⌜ Sound line (now touches) ⌝ }
     ensures is { λ r. ⌜ r ≡ outlook line (now (touches .entry)) ⌝ }
     ensures caps { λ _. ⌜ Laws-of-caps ⌝ }
+    ensures figures { λ _. ⌜ Figures ⌝ }
 {
     match highest_touch(touches) {
         Some(floor) => {
@@ -87,11 +97,7 @@ pub fn lowest_open(line: Line, touches: &[Touch], tolerance: u16) -> Option<Summ
     ensures gaps { λ _. ⌜ Laws-of-gaps ⌝ }
 {
     match highest_touch(touches) {
-        Some(floor) => lowest_summit(
-            line,
-            touches,
-            i32::from(floor.height) + i32::from(tolerance),
-        ),
+        Some(floor) => lowest_summit(line, touches, bound_over(floor, tolerance)),
         None => None,
     }
 }
@@ -101,7 +107,7 @@ pub fn is_settled(outlook: Option<Outlook>, tolerance: u16) -> bool
     ensures { λ r. ⌜ r ≡ settled-by outlook tolerance ⌝ }
 {
     match outlook {
-        Some(seen) => seen.ceiling <= i32::from(seen.floor.height) + i32::from(tolerance),
+        Some(seen) => seen.ceiling <= bound_over(seen.floor, tolerance),
         None => false,
     }
 }

@@ -4,6 +4,7 @@ use mir.Syntax.{w32}
 use mir.Val.{toZ, ofZ}
 use borrow.Author.Differences.{ints}
 use Rattle.caps.proofs.Proved.{laws-of-caps}
+use Rattle.caps.proofs.Figures.{figures}
 use Rattle.envelope.proofs.Views.{some-touched, look-is, none-is}
 use Rattle.envelope.proofs.looks.look.Needs as need
 
@@ -16,7 +17,8 @@ returns-in-Some c =
     record {
       is = look-is (c .args .line) (c .args .touches .now) (c .in-Some .floor) _ (c .highest-summit-summit .result) (c .pre) (c .in-Some .ensures tt) (c .highest-summit-summit .ensures) (b ∙ c .over-floor .ensures);
       caps = laws-of-caps;
+      figures = figures;
     }
 
 pub returns-in-None : need.returns-in-None
-returns-in-None c = record { is = none-is (c .args .line) (c .args .touches .now) (c .in-None .ensures tt); caps = laws-of-caps }
+returns-in-None c = record { is = none-is (c .args .line) (c .args .touches .now) (c .in-None .ensures tt); caps = laws-of-caps; figures = figures }
