@@ -4,14 +4,16 @@ ghost use lib.ListN.{length, take};
 ghost use Rattle.terms.specs.Limits.{last-max, slope-max, slack-max, touches-max};
 ghost use Rattle.logs.specs.Places.{Rises, Near, Low};
 use caps::Line;
+use caps::LinePartialEq;
 use caps::Touch;
+use caps::TouchPartialEq;
 use caps::sound::PLACES;
 
 pub mod aims;
 pub mod table;
 
 // A survey but for its gauge, as plain numbers.
-#[derive(Clone, Copy)]
+#[derive(Clone, Copy, PartialEq, Eq)]
 pub struct Notes {
     // The gauge's line, noted once, at opening.
     pub line: Line,
