@@ -1,17 +1,19 @@
 -- A log as the state of the definitions, and where a search touches.
 use mathlib.Core.Path.{_≡_}
-use mathlib.Core.List.{[]}
+use mathlib.Core.List.{[], _++_}
 use mathlib.Core.Bool.{false, cond}
-use Prim.Native.Nat.{ℕ, _≤_}
-use lib.ListN.{take}
+use Prim.Native.Nat.{ℕ, _+_, _≤_}
+use lib.ListN.{length, take, drop}
 use Rattle.std.specs.declared.option.Option.{Option}
 use Rattle.std.specs.declared.option.Option.the-variants.{Some, None}
+use Rattle.caps.specs.declared.Touch.{Touch}
 use Rattle.caps.specs.declared.Line.{Line}
 use Rattle.caps.specs.declared.Outlook.{Outlook}
-use Rattle.caps.specs.Touches.{is-touched}
+use Rattle.caps.specs.Touches.{insert, is-touched}
 use Rattle.surveys.specs.States.{State, settled}
 use Rattle.surveys.specs.Calls.{place-of, high-place, left-place}
 use Rattle.logs.specs.declared.log.Log.{Log}
+use Rattle.logs.specs.declared.log.Notes.{Notes}
 use Rattle.logs.specs.declared.setting.Setting.{Setting}
 
 -- what a log means
@@ -21,6 +23,15 @@ state-of l = record { line = l .notes .line; tolerance = l .notes .tolerance; li
 -- the state of a survey of that line before its first call
 abbrev pub begun : Line → Setting → State
 begun line s = record { line = line; tolerance = s .tolerance; limit = s .limit; touches = [] }
+
+-- notes with the touch put in among the others, and nothing else changed
+pub record Put-in (t : Touch) (before after : Notes) : Type 0 where
+  pub line : after .line ≡ before .line
+  pub tolerance : after .tolerance ≡ before .tolerance
+  pub limit : after .limit ≡ before .limit
+  pub count : after .count ≡ before .count + 1
+  pub long : length (after .touches) ≡ length (before .touches)
+  pub table : after .touches ≡ insert t (take (before .count) (before .touches)) ++ drop (before .count + 1) (before .touches)
 
 -- the place of the summit that is seen; before the first touch position 0
 abbrev pub place-seen : Option Outlook → ℕ

@@ -1,11 +1,13 @@
 // The table of touches.
 ghost use mathlib.Core.Path.{_≡_};
 ghost use mathlib.Core.Bool.{false};
+ghost use Prim.Native.Nat.{_<_};
 ghost use lib.ListN.{length};
+ghost use Rattle.terms.specs.Limits.{touches-max};
 ghost use Rattle.terms.specs.Meaning.{Height};
 ghost use Rattle.caps.specs.Touches.{Within-limits, Sound, is-touched};
 ghost use Rattle.surveys.specs.States.{add, with-tolerance, full, standing};
-ghost use Rattle.logs.specs.Logs.{state-of, begun, Free};
+ghost use Rattle.logs.specs.Logs.{state-of, begun, Put-in, Free};
 use crate::log::Log;
 use crate::log::Notes;
 use crate::setting::Setting;
@@ -28,6 +30,17 @@ fn has_touch(touches: &[Touch], position: u16) -> bool
     false
 }
 
+impl Notes {
+    // Puts the touch in at its place among the others.
+    fn put_in(&mut self, touch: Touch)
+        requires { ⌜ now self .count < length (now self .touches) ⌝ ∗ ⌜ now self .count < touches-max ⌝ }
+        ensures { λ _. ⌜ Put-in touch (now (self .entry)) (now (self .exit)) ⌝ }
+    {
+        insert_touch(&mut self.touches, usize::from(self.count), touch);
+        self.count += 1;
+    }
+}
+
 impl Log {
     // A log with no touch.
     pub fn open(line: Line, setting: Setting) -> Log
@@ -48,14 +61,21 @@ impl Log {
         }
     }
 
+    // The front of the table.
+    fn front(&self) -> &[Touch]
+        ensures { λ r. ⌜ now r ≡ state-of (now (self .entry)) .touches ⌝ }
+    {
+        let table = &self.notes.touches[..];
+        &table[0..usize::from(self.notes.count)]
+    }
+
     // The touches, in rising order of position.
     pub fn touched(&self) -> &[Touch]
         ensures items { λ r. ⌜ now r ≡ state-of (now (self .entry)) .touches ⌝ }
         ensures sound { λ r. ⌜ Sound (now (self .entry) .notes .line) (now r) ⌝ }
         ensures count { λ r. ⌜ length (now r) ≡ now (self .entry) .notes .count ⌝ }
     {
-        let table = &self.notes.touches[..];
-        &table[0..usize::from(self.notes.count)]
+        self.front()
     }
 
     // Floor, ceiling and the untouched position of largest cap. None before the first touch.
@@ -103,11 +123,6 @@ impl Log {
         requires height { ⌜ Height (touch .height) ⌝ }
         ensures { λ _. ⌜ state-of (now (self .exit)) ≡ add touch (state-of (now (self .entry))) ⌝ }
     {
-        insert_touch(
-            &mut self.notes.touches,
-            usize::from(self.notes.count),
-            touch,
-        );
-        self.notes.count += 1;
+        self.notes.put_in(touch);
     }
 }

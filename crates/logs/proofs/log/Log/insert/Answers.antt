@@ -1,39 +1,32 @@
-use mathlib.Core.Path.{_≡_, refl, sym, ap, _∙_, subst}
-use mathlib.Core.List.{List, _++_}
-use Prim.Native.Nat.{_+_}
+use mathlib.Core.Path.{_∙_}
 use native.Mathlib.Omega.{arith}
-use lib.ListN.{length, take, drop}
-use Rattle.caps.specs.declared.Touch.{Touch}
-use Rattle.caps.specs.Touches.{insert}
-use Rattle.surveys.specs.States.{State}
-use Rattle.logs.proofs.Tables.{count-below, touches-then, rises-then, near-then, low-then}
+use Rattle.logs.proofs.Tables.{count-below, state-then, last-then, slope-then, slack-then, rises-then, near-then, low-then}
 use Rattle.logs.proofs.log.Log.insert.Needs as need
 
 pub ghost-self : need.ghost-self
 ghost-self c =
     let l = c .args .self .now in
     let u = c .args .touch in
-    let table = c .insert-touch .last .table in
-    let T = c .args .self .now .notes .touches in
-    let is = c .insert-touch .ensures .is ∙ ap (λ n. insert u (take n T) ++ drop (n + 1) T) (c .from .ensures) in
-    let below = count-below l u table is (c .pre .room) in
-    let long : length (c .insert-touch .last .table) ≡ length (c .args .self .now .notes .touches) = omega arith in (
-      omega arith,
+    let n = c .put-in .last .self in
+    let put = c .put-in .ensures in
+    let below = count-below l (c .pre .room) in
+    let room = l .room in (
+      omega (arith, put .count, put .limit),
       (
-        l .room,
+        omega (arith, put .limit),
         (
-          long ∙ l .long,
+          put .long ∙ l .long,
           (
-            l .lasts,
+            last-then l u n put,
             (
-              l .slopes,
+              slope-then l u n put,
               (
-                l .slacks,
+                slack-then l u n put,
                 (
-                  rises-then l u table is (c .pre .room) (c .pre .free) (c .pre .height),
+                  rises-then l u n put (c .pre .free) (c .pre .height),
                   (
-                    near-then l u table is (c .pre .room) (c .pre .free) (c .pre .height),
-                    (low-then l u table is (c .pre .room) (c .pre .free) (c .pre .height), tt),
+                    near-then l u n put (c .pre .free) (c .pre .height),
+                    (low-then l u n put (c .pre .free) (c .pre .height), tt),
                   ),
                 ),
               ),
@@ -44,10 +37,4 @@ ghost-self c =
     )
 
 pub returns : need.returns
-returns c =
-    let l = c .args .self .now in
-    let u = c .args .touch in
-    let table = c .insert-touch .last .table in
-    let T = c .args .self .now .notes .touches in
-    let is = c .insert-touch .ensures .is ∙ ap (λ n. insert u (take n T) ++ drop (n + 1) T) (c .from .ensures) in
-    ap (λ (us : List Touch). record { line = l .notes .line; tolerance = l .notes .tolerance; limit = l .notes .limit; touches = us }) (touches-then l u table is (c .pre .room))
+returns c = state-then (c .args .self .now) (c .args .touch) (c .put-in .last .self) (c .put-in .ensures)
