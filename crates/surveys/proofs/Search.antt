@@ -87,11 +87,11 @@ module _ (m : Meaning) (law : Lawful m) where
   of-searched : (s : State) → Searched s → Survey-of m s
   of-searched s h = h .of
 
-  far : (tolerance : ℕ) (ts : List Touch) (p : ℕ) → Sound m ts → Aim m tolerance ts p → All (λ t. d tolerance ≤ distance (t .position) p) ts
+  far : (tolerance : ℕ) (ts : List Touch) (p : ℕ) → Sound m ts → Aim (line-of m) tolerance ts p → All (λ t. d tolerance ≤ distance (t .position) p) ts
   far tolerance [] p sound aim = tt
   far tolerance (a ∷ ts) p sound aim = laws-of-caps .high-cap-is-far L a ts tolerance (law .slope-low) (sound-lawful m law (a ∷ ts) sound) p (aim .above)
 
-  aimed : (s : State) (p : ℕ) (h : ℤ) → Aim m (s .tolerance) (s .touches) p → full s ≡ false → m .reading p ≡ Ok h → Searched s → Searched (add (record { position = p; height = h }) s)
+  aimed : (s : State) (p : ℕ) (h : ℤ) → Aim (line-of m) (s .tolerance) (s .touches) p → full s ≡ false → m .reading p ≡ Ok h → Searched s → Searched (add (record { position = p; height = h }) s)
   aimed s p h aim f e g = record {
     of = record { line = g .of .line; sound = sound-more m (s .touches) p h (g .of .sound) (aim .within) (aim .free) e };
     apart = stays-apart (d (s .tolerance)) (record { position = p; height = h }) (s .touches) (g .apart) (far (s .tolerance) (s .touches) p (g .of .sound) aim);
@@ -104,7 +104,7 @@ module _ (m : Meaning) (law : Lawful m) where
   few s h = let n = laws-of-caps .few-lie-apart L (s .tolerance) (places (s .touches)) (within s (h .of)) (h .apart) in omega (arith, length-map (s .touches) (λ (t : Touch). t .position))
 
   -- While there is a place to touch, one more touch is not too many.
-  room-left : (s : State) (p : ℕ) → Searched s → Aim m (s .tolerance) (s .touches) p → length (s .touches) < most-touches L (s .tolerance)
+  room-left : (s : State) (p : ℕ) → Searched s → Aim (line-of m) (s .tolerance) (s .touches) p → length (s .touches) < most-touches L (s .tolerance)
   room-left s p h aim =
       let D : ℕ = d (s .tolerance) in
       let off = all-map (λ q. D ≤ distance p q) (λ t. t .position) (s .touches)

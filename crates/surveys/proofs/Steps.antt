@@ -19,7 +19,7 @@ use Rattle.caps.proofs.Highest.{false-untouched}
 use Rattle.surveys.specs.declared.answers.Course.{Course}
 use Rattle.surveys.specs.declared.calls.Call.{Call}
 use Rattle.surveys.specs.declared.calls.Call.the-variants.{High, Left, At, Run, Tol, Ask}
-use Rattle.surveys.specs.States.{Readings, State, add, with-tolerance, settled, full}
+use Rattle.surveys.specs.States.{Readings, State, line-of, add, with-tolerance, settled, full}
 use Rattle.surveys.specs.Calls.{Outcome, high-place, left-place, by-reading, seek, high, left, at, go-on, run-on}
 use Rattle.surveys.specs.Moments.{outcome, moment}
 use Rattle.surveys.proofs.Sound.{Survey-of}
@@ -38,8 +38,8 @@ module _ (m : Meaning) (P : State → Type 0) (of : (s : State) → P s → Surv
   read-kept s p more h (Err f) e = h
 
   -- What one more touch at an aim keeps, high, left and run keep.
-  module _ (more : (s : State) (p : ℕ) (h : ℤ) → Aim m (s .tolerance) (s .touches) p → full s ≡ false → m .reading p ≡ Ok h → P s → P (add (record { position = p; height = h }) s)) where
-    seek-kept : (s : State) (p : ℕ) → (settled s ≡ false → Aim m (s .tolerance) (s .touches) p) → P s → P (seek R s p .after)
+  module _ (more : (s : State) (p : ℕ) (h : ℤ) → Aim (line-of m) (s .tolerance) (s .touches) p → full s ≡ false → m .reading p ≡ Ok h → P s → P (add (record { position = p; height = h }) s)) where
+    seek-kept : (s : State) (p : ℕ) → (settled s ≡ false → Aim (line-of m) (s .tolerance) (s .touches) p) → P s → P (seek R s p .after)
     seek-kept s p aim h =
         either P (settled s) _ _ (λ _. h) (λ e. either P (full s) _ _ (λ _. h) (λ f. read-kept s p (λ z q. more s p z (aim e) f q h) h (m .reading p) refl))
 
@@ -62,7 +62,7 @@ module _ (m : Meaning) (P : State → Type 0) (of : (s : State) → P s → Surv
   -- What one more touch anywhere untouched and another tolerance keep, every call keeps.
   module _ (more : (s : State) (p : ℕ) (h : ℤ) → p ≤ m .last → Untouched (s .touches) p → full s ≡ false → m .reading p ≡ Ok h → P s → P (add (record { position = p; height = h }) s))
       (reset : (s : State) (t : ℕ) → P s → P (with-tolerance t s)) where
-    aimed : (s : State) (p : ℕ) (h : ℤ) → Aim m (s .tolerance) (s .touches) p → full s ≡ false → m .reading p ≡ Ok h → P s → P (add (record { position = p; height = h }) s)
+    aimed : (s : State) (p : ℕ) (h : ℤ) → Aim (line-of m) (s .tolerance) (s .touches) p → full s ≡ false → m .reading p ≡ Ok h → P s → P (add (record { position = p; height = h }) s)
     aimed s p h aim f e g = more s p h (aim .within) (aim .free) f e g
 
     at-kept : (s : State) (p : ℕ) → P s → P (at R s p .after)

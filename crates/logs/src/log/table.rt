@@ -1,0 +1,96 @@
+// The table of touches.
+ghost use mathlib.Core.Path.{_≡_};
+ghost use mathlib.Core.Bool.{false};
+ghost use lib.ListN.{length};
+ghost use Rattle.terms.specs.Meaning.{Height};
+ghost use Rattle.caps.specs.Touches.{Within-limits, Sound, is-touched};
+ghost use Rattle.surveys.specs.States.{add, full, standing};
+ghost use Rattle.logs.specs.Logs.{state-of, begun, Free};
+use crate::log::Log;
+use crate::setting::Setting;
+use caps::Line;
+use caps::Outlook;
+use caps::Touch;
+use caps::sound::PLACES;
+use caps::table::insert_touch;
+use envelope::looks::look;
+
+// Whether a touch stands at the position.
+fn has_touch(touches: &[Touch], position: u16) -> bool
+    ensures { λ r. ⌜ r ≡ is-touched (now (touches .entry)) position ⌝ }
+{
+    for touch in touches {
+        if touch.position == position {
+            return true;
+        }
+    }
+    false
+}
+
+impl Log {
+    // A log with no touch.
+    pub fn open(line: Line, setting: Setting) -> Log
+        requires { ⌜ Within-limits line ⌝ }
+        ensures { λ r. ⌜ state-of r ≡ begun line setting ⌝ }
+    {
+        Log {
+            line,
+            tolerance: setting.tolerance,
+            limit: setting.limit,
+            count: 0,
+            touches: [Touch {
+                position: 0,
+                height: 0,
+            }; PLACES],
+        }
+    }
+
+    // The touches, in rising order of position.
+    pub fn touched(&self) -> &[Touch]
+        ensures items { λ r. ⌜ now r ≡ state-of (now (self .entry)) .touches ⌝ }
+        ensures sound { λ r. ⌜ Sound (now (self .entry) .line) (now r) ⌝ }
+        ensures count { λ r. ⌜ length (now r) ≡ now (self .entry) .count ⌝ }
+    {
+        let table = &self.touches[..];
+        &table[0..usize::from(self.count)]
+    }
+
+    // Floor, ceiling and the untouched position of largest cap. None before the first touch.
+    pub fn look(&self) -> Option<Outlook>
+        ensures { λ r. ⌜ r ≡ standing (state-of (now (self .entry))) ⌝ }
+    {
+        look(self.line, self.touched())
+    }
+
+    // The number of touches.
+    pub fn number_of_touches(&self) -> u16
+        ensures { λ r. ⌜ r ≡ length (state-of (now (self .entry)) .touches) ⌝ }
+    {
+        self.touched().len() as u16
+    }
+
+    // Whether the touches equal the limit.
+    pub fn is_full(&self) -> bool
+        ensures { λ r. ⌜ r ≡ full (state-of (now (self .entry))) ⌝ }
+    {
+        self.number_of_touches() == self.limit
+    }
+
+    // Whether the position is touched.
+    pub fn is_touched(&self, position: u16) -> bool
+        ensures { λ r. ⌜ r ≡ is-touched (state-of (now (self .entry)) .touches) position ⌝ }
+    {
+        has_touch(self.touched(), position)
+    }
+
+    // Puts a touch in at its place.
+    pub fn insert(&mut self, touch: Touch)
+        requires room { ⌜ full (state-of (now self)) ≡ false ⌝ }
+        requires free { ⌜ Free (state-of (now self)) (touch .position) ⌝ }
+        requires height { ⌜ Height (touch .height) ⌝ }
+        ensures { λ _. ⌜ state-of (now (self .exit)) ≡ add touch (state-of (now (self .entry))) ⌝ }
+    {
+        insert_touch(&mut self.touches, usize::from(self.count), touch);
+        self.count += 1;
+    }
+}
