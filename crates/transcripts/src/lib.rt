@@ -1,0 +1,3 @@
+// What the command program prints.
+pub mod entry;
+pub mod lines;
