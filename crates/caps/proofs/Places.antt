@@ -1,7 +1,7 @@
 -- The place of a new touch, and the test of touches.
 use mathlib.Core.Path.{_≡_, refl, sym, ap, _∙_}
 use mathlib.Core.List.{List, [], _∷_, _++_}
-use mathlib.Core.Bool.{cond}
+use mathlib.Core.Bool.{true, false, cond}
 use Prim.Native.Nat.{ℕ, suc, _+_, _-_, _<_, _≤_}
 use native.Mathlib.Omega.{arith}
 use lib.Dec.{ltb}
@@ -11,7 +11,7 @@ use Rattle.std.specs.Holes.{inserted}
 use Rattle.std.specs.shelf.Lists.{All}
 use Rattle.std.proofs.shelf.Elements.{all-weaker}
 use Rattle.std.proofs.shelf.Lists.{drop-more, drop-all}
-use Rattle.std.proofs.shelf.Tests.{cond-both, cond-true, cond-false, le-ltb, lt-ltb}
+use Rattle.std.proofs.shelf.Tests.{cond-both, cond-true, cond-false}
 use Rattle.std.proofs.shelf.Ways.{tells}
 use Rattle.caps.specs.declared.Touch.{Touch}
 use Rattle.caps.specs.declared.Line.{Line}
@@ -42,13 +42,13 @@ table-is T n u at after e is =
     is ∙ ap (λ k. inserted (take n T) k u ++ drop (n + 1) T) here ∙ ap (λ (us : List Touch). us ++ drop (n + 1) T) (inserted-is u (take n T))
 
 module _ (p : ℕ) (ts : List Touch) (i : ℕ) where
-  pub before-here : i < length ts → getD ts i no-touch .position ≤ p → places-before p (drop i ts) ≡ 1 + places-before p (drop (i + 1) ts)
+  pub before-here : i < length ts → ltb p (getD ts i no-touch .position) ≡ false → places-before p (drop i ts) ≡ 1 + places-before p (drop (i + 1) ts)
   before-here lt e =
-      ap (places-before p) (drop-more ts i no-touch lt) ∙ cond-false _ _ _ (le-ltb _ _ e)
+      ap (places-before p) (drop-more ts i no-touch lt) ∙ cond-false _ _ _ e
       ∙ (let k : suc (places-before p (drop (i + 1) ts)) ≡ 1 + places-before p (drop (i + 1) ts) = omega arith in k)
 
-  pub before-stop : i < length ts → p < getD ts i no-touch .position → places-before p (drop i ts) ≡ 0
-  before-stop lt e = ap (places-before p) (drop-more ts i no-touch lt) ∙ cond-true _ _ _ (lt-ltb _ _ e)
+  pub before-stop : i < length ts → ltb p (getD ts i no-touch .position) ≡ true → places-before p (drop i ts) ≡ 0
+  before-stop lt e = ap (places-before p) (drop-more ts i no-touch lt) ∙ cond-true _ _ _ e
 
   pub before-all : length ts ≤ i → places-before p (drop i ts) ≡ 0
   before-all le = ap (places-before p) (drop-all i ts le)

@@ -2,6 +2,7 @@
 ghost use mathlib.Core.Path.{_≡_};
 ghost use mathlib.Core.List.{_++_};
 ghost use Prim.Native.Nat.{_+_, _<_, _≤_};
+ghost use lib.Dec.{ltb};
 ghost use lib.ListN.{length, take, drop};
 ghost use Rattle.std.specs.Holes.{inserted};
 ghost use Rattle.caps.specs.Touches.{insert};
@@ -9,12 +10,19 @@ ghost use Rattle.caps.specs.Places.{places-before};
 ghost use Rattle.caps.specs.Laws.{Laws-of-one-more};
 use crate::Touch;
 
+// Whether the touch lies after the position.
+fn is_after(touch: &Touch, position: u16) -> bool
+    ensures { λ r. ⌜ r ≡ ltb position (now (touch .entry) .position) ⌝ }
+{
+    position < touch.position
+}
+
 // How many touches, from the first on, lie at the position or before.
 fn place_of(touches: &[Touch], position: u16) -> usize
     ensures { λ r. ⌜ r ≡ places-before position (now (touches .entry)) ⌝ }
 {
     for (i, touch) in touches.iter().enumerate() {
-        if position < touch.position {
+        if is_after(touch, position) {
             return i;
         }
     }

@@ -6,7 +6,7 @@ use lib.IntN.{ℤ, natAbs, _-ℤ_}
 use Rattle.std.specs.declared.result.Result.the-variants.{Ok, Err}
 use Rattle.terms.specs.declared.fault.Fault.{Fault}
 use Rattle.terms.specs.declared.fault.Cause.the-variants.{Unread}
-use Rattle.terms.specs.Faults.{raised, beyond}
+use Rattle.terms.specs.Faults.{raised, beyond, layer-name}
 use Rattle.terms.specs.Limits.{slope-max, slack-max}
 use Rattle.terms.specs.Meaning.{Meaning, Reading, Lawful, Height, distance}
 use Rattle.gauges.specs.Layering.{over, joined, over-meaning, join-meaning}
@@ -80,12 +80,12 @@ join-lawful f s u m n l r slopes cap joins = record {
   slack-high = cap;
   heights = λ p h e. let b = pair p h e in rw (b .value) (joins .range (b .a) (b .b) (l .heights p (b .a) (b .left)) (r .heights p (b .b) (b .right)));
   missing = λ p e w i.
-      joined-err (λ x. x .cause ≡ Unread) (λ d c. c) f (m .reading p) (n .reading p) e (sym (within-is (min (m .last) (n .last)) 0 p _ w) ∙ i)
+      joined-err (λ x. x .cause ≡ Unread) (λ d c. c) f (m .reading p) (n .reading p) e (sym (within-is (min (m .last) (n .last)) layer-name p _ w) ∙ i)
       (λ d j. l .missing p d (omega arith) j)
       (λ d j. r .missing p d (omega arith) j);
-  past = λ p w. (beyond p 0, past-is (min (m .last) (n .last)) 0 p _ w, refl);
+  past = λ p w. (beyond p layer-name, past-is (min (m .last) (n .last)) layer-name p _ w, refl);
   asked = λ p e i.
-      up-to-asked (min (m .last) (n .last)) 0 p (joined f (m .reading p) (n .reading p)) e
+      up-to-asked (min (m .last) (n .last)) layer-name p (joined f (m .reading p) (n .reading p)) e
       (λ x j. joined-err (λ y. y .position ≡ p) (λ d c. c) f (m .reading p) (n .reading p) x j (l .asked p) (r .asked p))
       i;
   near = λ p q h k eh ek.
@@ -96,4 +96,4 @@ join-lawful f s u m n l r slopes cap joins = record {
 }
   where
     pair : (p : ℕ) (h : ℤ) → join-meaning f s u m n .reading p ≡ Ok h → Both f (m .reading p) (n .reading p) h
-    pair p h e = joined-ok f (m .reading p) (n .reading p) h (up-to-ok (min (m .last) (n .last)) 0 p _ h e)
+    pair p h e = joined-ok f (m .reading p) (n .reading p) h (up-to-ok (min (m .last) (n .last)) layer-name p _ h e)

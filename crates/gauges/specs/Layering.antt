@@ -6,7 +6,7 @@ use lib.IntN.{ℤ}
 use Rattle.std.specs.declared.result.Result.{Result}
 use Rattle.std.specs.declared.result.Result.the-variants.{Ok, Err}
 use Rattle.terms.specs.declared.fault.Raised.{Raised}
-use Rattle.terms.specs.Faults.{raised, beyond}
+use Rattle.terms.specs.Faults.{raised, beyond, layer-name}
 use Rattle.terms.specs.Meaning.{Meaning, Reading}
 
 -- a reading whose fault has come up through one more layer
@@ -38,11 +38,11 @@ up-to last name p r = cond (ltb last p) (Err (beyond p name)) r
 abbrev pub over-meaning : (ℤ → ℤ) → ℕ → Meaning → Meaning
 over-meaning f u m = record { last = m .last; slope = m .slope; slack = u; reading = λ p. over f (m .reading p) }
 
--- a layer on two gauges: heights by f, slope s, slack u, up to the smaller last position; name 0 stands for a layer
+-- a layer on two gauges: heights by f, slope s, slack u, up to the smaller last position
 abbrev pub join-meaning : (ℤ → ℤ → ℤ) → ℕ → ℕ → Meaning → Meaning → Meaning
 join-meaning f s u m n = record {
   last = min (m .last) (n .last);
   slope = s;
   slack = u;
-  reading = λ p. up-to (min (m .last) (n .last)) 0 p (joined f (m .reading p) (n .reading p));
+  reading = λ p. up-to (min (m .last) (n .last)) layer-name p (joined f (m .reading p) (n .reading p));
 }

@@ -1,17 +1,17 @@
 -- The tent: what it means, and what its tests refuse.
 use mathlib.Core.Bool.{cond, _||_}
 use Prim.Native.Nat.{ℕ, _*_}
-use lib.Dec.{eqb, ltb}
+use lib.Dec.{ltb}
 use lib.IntN.{ℤ, pos, _-ℤ_}
 use lib.Signed.{ltZ}
 use Rattle.std.specs.Numbers.{maxZ}
-use Rattle.std.specs.declared.option.Option.{Option}
-use Rattle.std.specs.declared.option.Option.the-variants.{Some, None}
+use Rattle.std.specs.Results.{andOther}
+use Rattle.std.specs.declared.option.Option.the-variants.{None}
 use Rattle.std.specs.declared.result.Result.the-variants.{Ok, Err}
-use Rattle.terms.specs.declared.refusal.Refusal.{Refusal}
-use Rattle.terms.specs.declared.refusal.Refusal.the-variants.{LastOutOfRange, SlopeOutOfRange, HeightOutOfRange, NameZero, PositionBeyondLast}
-use Rattle.terms.specs.Limits.{last-max, slope-max, lowest-height, highest-height}
+use Rattle.terms.specs.declared.refusal.Refusal.the-variants.{HeightOutOfRange, PositionBeyondLast}
+use Rattle.terms.specs.Limits.{lowest-height, highest-height}
 use Rattle.terms.specs.Meaning.{Meaning, distance}
+use Rattle.heights.specs.Verdicts.{Verdict, line-verdict, name-verdict}
 use Rattle.gauges.specs.Layering.{up-to}
 
 -- the crown's height less slope × distance from the crown, but at least -20,000
@@ -27,11 +27,18 @@ tent-meaning last slope crown height name = record {
   reading = λ p. up-to last name p (Ok (tent-height slope crown height p));
 }
 
--- the first refusal in order that holds of a tent's figures
-abbrev pub tent-refusal : (last slope crown : ℕ) (height : ℤ) (name : ℕ) → Option Refusal
-tent-refusal last slope crown height name =
-    cond (eqb last 0 || ltb last-max last) (Some LastOutOfRange)
-    (cond (eqb slope 0 || ltb slope-max slope) (Some SlopeOutOfRange)
-    (cond (ltZ height lowest-height || ltZ highest-height height) (Some (HeightOutOfRange None))
-    (cond (eqb name 0) (Some NameZero)
-    (cond (ltb last crown) (Some PositionBeyondLast) None))))
+-- the crown's height is in its range; no position is told, and -32,768 is refused too
+abbrev pub crown-height-verdict : ℤ → Verdict
+crown-height-verdict height = cond (ltZ height lowest-height || ltZ highest-height height) (Err (HeightOutOfRange None)) (Ok tt)
+
+-- the crown is not beyond the last position
+abbrev pub crown-verdict : (last crown : ℕ) → Verdict
+crown-verdict last crown = cond (ltb last crown) (Err PositionBeyondLast) (Ok tt)
+
+-- what a tent's tests answer: the first refusal in order that holds of its figures, the slack being 0
+-- `andOther a b` is the refusal of a, and where a has none it is b
+abbrev pub tent-verdict : (last slope crown : ℕ) (height : ℤ) (name : ℕ) → Verdict
+tent-verdict last slope crown height name =
+    andOther (line-verdict last slope 0)
+    (andOther (crown-height-verdict height)
+    (andOther (name-verdict name) (crown-verdict last crown)))

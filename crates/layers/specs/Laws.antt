@@ -12,9 +12,9 @@ use lib.Signed.{_≤ℤ_}
 use Rattle.std.specs.Numbers.{maxZ, remEuclid}
 use Rattle.std.proofs.shelf.Signed.{ints, clamps}
 use Rattle.terms.specs.Limits.{slope-max, slack-max, step-max}
-use Rattle.terms.specs.Meaning.{Meaning, Lawful}
+use Rattle.terms.specs.Meaning.{Meaning, Lawful, Height}
 use Rattle.gauges.proofs.Layers.{over-lawful, join-lawful}
-use Rattle.layers.specs.Layers.{flip-meaning, coarse-height, coarse-meaning, higher-meaning, sum-height, sum-meaning}
+use Rattle.layers.specs.Layers.{flip-meaning, coarse-height, coarse-meaning, higher-meaning, sum-height, sum-slope, sum-slack, sum-meaning}
 
 pub flip-lawful : (m : Meaning) → Lawful m → Lawful (flip-meaning m)
 flip-lawful m l =
@@ -67,16 +67,21 @@ two-slopes s t (suc d) false i =
     inr (rw m (omega arith))
 
 sum-near : (a b c d : ℤ) (g i s t f u : ℕ) → natAbs (a -ℤ c) ≤ g + s → natAbs (b -ℤ d) ≤ i + t → (g + i ≤ f) ⊎ (slope-max ≤ f) → u ≡ min (s + t) slack-max → natAbs (sum-height a b -ℤ sum-height c d) ≤ f + u
+unfolding sum-height
 sum-near a b c d g i s t f u x y (inl z) e = omega (arith, ints, clamps)
 sum-near a b c d g i s t f u x y (inr z) e = omega (arith, ints, clamps)
 
+sum-ranged : (a b : ℤ) → Height (sum-height a b)
+unfolding sum-height
+sum-ranged a b = record { low = omega (arith, ints, clamps); high = omega (arith, ints, clamps) }
+
 pub sum-lawful : (m n : Meaning) → Lawful m → Lawful n → Lawful (sum-meaning m n)
 sum-lawful m n l r =
-    join-lawful sum-height (min (m .slope + n .slope) slope-max) (min (m .slack + n .slack) slack-max) m n l r
+    join-lawful sum-height (sum-slope (m .slope) (n .slope)) (sum-slack (m .slack) (n .slack)) m n l r
     (omega (arith, l .slope-low), omega arith)
     (omega arith)
     record {
-      range = λ a b x y. record { low = omega (arith, ints, clamps); high = omega (arith, ints, clamps) };
+      range = λ a b x y. sum-ranged a b;
       near = λ d a b x y v w.
           sum-near a b x y (m .slope * d) (n .slope * d) (m .slack) (n .slack) _ _ v w (two-slopes (m .slope) (n .slope) d (leb (m .slope + n .slope) slope-max) refl) refl;
     }

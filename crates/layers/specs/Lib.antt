@@ -1,2 +1,4 @@
 pub mod Layers
+pub mod Multiples
 pub mod Laws
+pub mod Examples

@@ -16,7 +16,7 @@ use Rattle.logs.specs.declared.setting.Setting.{Setting}
 
 -- what a log means
 abbrev pub state-of : Log → State
-state-of l = record { line = l .line; tolerance = l .tolerance; limit = l .limit; touches = take (l .count) (l .touches) }
+state-of l = record { line = l .notes .line; tolerance = l .notes .tolerance; limit = l .notes .limit; touches = take (l .notes .count) (l .notes .touches) }
 
 -- the state of a survey of that line before its first call
 abbrev pub begun : Line → Setting → State

@@ -2,7 +2,8 @@
 ghost use mathlib.Core.Path.{_≡_};
 ghost use mathlib.Core.List.{List};
 ghost use lib.IntN.{ℤ};
-ghost use lib.ListN.{drop};
+ghost use lib.Dec.{ltb};
+ghost use lib.ListN.{drop, length};
 ghost use lib.Signed.{ltZ};
 ghost use Rattle.pick.specs.Picks.{head, tail, picked, Picks, better, first-above, Finds};
 
@@ -88,6 +89,15 @@ pub struct Walk<'a, T> {
     at: usize,
 }
 
+impl<'a, T> Walk<'a, T> {
+    // Whether an item is still to come.
+    fn is_left(&self) -> bool
+        ensures { λ r. ⌜ r ≡ ltb (now (self .entry) .at) (length (now (self .entry) .items .now)) ⌝ }
+    {
+        self.at < self.items.len()
+    }
+}
+
 pub impl<'a, T: Ranked + Copy> Source for Walk<'a, T> as WalkSource {
     type Item = T;
 
@@ -96,7 +106,7 @@ pub impl<'a, T: Ranked + Copy> Source for Walk<'a, T> as WalkSource {
     ghost sound = { λ w. Unit {0} };
 
     fn next(&mut self) -> Option<T> {
-        if self.at < self.items.len() {
+        if self.is_left() {
             let item = self.items[self.at];
             self.at += 1;
             Some(item)

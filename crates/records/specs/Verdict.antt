@@ -1,4 +1,5 @@
--- What the tests of a record's bytes answer.
+-- What the tests of a record's bytes, and of a sheet that is to be written, answer.
+-- `andOther a b` is the refusal of a, and where a has none it is b.
 use Prim.Native.Nat.{ℕ, _+_, _*_}
 use mathlib.Core.Bool.{cond}
 use mathlib.Core.List.{List, _++_}
@@ -20,6 +21,7 @@ shape-verdict b last =
     (cond (eqb (field-of b (44 + 16 * (last + 1)) 4) 0) (Ok tt) (Err PadBitSet))
     (Err RecordLengthWrong)
 
+-- a record that is to be the gauge of that name: 1; 2, 3, 4; 5, 6; 7, 8; 9
 abbrev pub record-verdict : List ℕ → ℕ → Verdict
 record-verdict b name =
     cond (ltb (length b) 6) (Err RecordTooShort)
@@ -28,7 +30,7 @@ record-verdict b name =
     (andOther (heights-verdict (slope-of b) (slack-of b) (heights-of b (last-of b + 1)))
     (name-verdict name))))
 
--- a sheet that may have a record
+-- a sheet that may have a record: 2, 3, 4; 7, 8
 abbrev pub verdict-of : Sheet → Verdict
 verdict-of s = sheet-verdict (s .slope) (s .slack) (s .heights)
 

@@ -1,2 +1,3 @@
 pub mod Leads
+pub mod Fills
 pub mod Repacks

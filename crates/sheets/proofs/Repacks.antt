@@ -3,15 +3,14 @@ use Prim.Native.Nat.{ℕ, _+_, _-_, _*_, _<_, _≤_}
 use mathlib.Core.Path.{_≡_, refl, sym, ap, _∙_, subst}
 use mathlib.Core.Logic.{⊎-elim}
 use mathlib.Core.Bool.{Bool, true, false, cond}
-use mathlib.Core.List.{List, [], _++_, append-nil}
+use mathlib.Core.List.{List}
 use native.Mathlib.Omega.{arith}
 use lib.Dec.{ltb}
 use lib.IntN.{ℤ, pos, negsuc}
-use lib.ListN.{length, getD, drop}
+use lib.ListN.{length}
 use Rattle.std.specs.Results.{isOk}
 use Rattle.std.specs.declared.result.Result.the-variants.{Ok, Err}
 use Rattle.std.proofs.shelf.Counted.{length-map-counting, fill-by-all}
-use Rattle.std.proofs.shelf.Lists.{drop-all}
 use Rattle.std.proofs.shelf.Tests.{both-ways, cases-bool, le-ltb, eqb-true, cond-false}
 use Rattle.heights.specs.Heights.{height-at, marked}
 use Rattle.heights.specs.Lists.{entry-reading, list-reading, list-meaning}
@@ -23,6 +22,7 @@ use Rattle.records.specs.Theorem.{Bytes}
 use Rattle.records.proofs.Sheets.{one-record-each}
 use Rattle.terms.specs.Meaning.{Meaning}
 use Rattle.sheets.specs.Entries.{entry, entries}
+use Rattle.sheets.proofs.Fills.{fits, filled}
 
 -- a mark stands where there is no reading, and nowhere else
 mark-is : (h : ℤ) → marked h ≡ true → h ≡ negsuc 32767
@@ -54,18 +54,16 @@ module _ (b : List ℕ) (name : ℕ) (bytes : Bytes b) (ok : isOk (record-verdic
   count : length hs ≡ last-of b + 1
   count = length-map-counting (height-of b) 0 (last-of b + 1)
 
-  pub answered : write-verdict (sheet-with (slope-of b) (slack-of b) hs) (length old) ≡ Ok (length b)
+  size : 6 + 2 * length hs ≡ length b
+  size = omega (arith, count, passed .size)
+
+  lawful : verdict-of (sheet-with (slope-of b) (slack-of b) hs) ≡ Ok tt
   unfolding sheet-of
-  answered =
-      let lawful : verdict-of (sheet-with (slope-of b) (slack-of b) hs) ≡ Ok tt = one-record-each .lawful b name (ok-is _ ok) in
-      let size : 6 + 2 * length hs ≡ length b = omega (arith, count, passed .size) in
-      let fits : ltb (length old) (6 + 2 * length hs) ≡ false = le-ltb _ _ (omega arith) in
-      rw (lawful, fits, size)
+  lawful = one-record-each .lawful b name (ok-is _ ok)
+
+  pub answered : write-verdict (sheet-with (slope-of b) (slack-of b) hs) (length old) ≡ Ok (length b)
+  answered = fits (sheet-with (slope-of b) (slack-of b) hs) old lawful (room ∙ sym size) ∙ ap Ok size
 
   pub left : write-leaves (sheet-with (slope-of b) (slack-of b) hs) old ≡ b
   unfolding sheet-of
-  left =
-      let size : 6 + 2 * length hs ≡ length b = omega (arith, count, passed .size) in
-      let mine : b ≡ record-of (sheet-with (slope-of b) (slack-of b) hs) = one-record-each .only (sheet-of b) b name bytes (ok-is _ ok) refl in
-      let none : drop (6 + 2 * length hs) old ≡ [] = drop-all (6 + 2 * length hs) old (omega arith) in
-      rw answered (rw none (append-nil _ ∙ sym mine))
+  left = filled (sheet-with (slope-of b) (slack-of b) hs) old lawful (room ∙ sym size) ∙ sym (one-record-each .only (sheet-of b) b name bytes (ok-is _ ok) refl)

@@ -3,29 +3,27 @@ use mathlib.Core.Path.{_≡_, refl, ap, sym, subst}
 use mathlib.Core.List.{List, [], _∷_}
 use mathlib.Core.Bool.{false}
 use mathlib.Core.Logic.{_≢_, ⊎-elim}
-use Prim.Native.Nat.{ℕ, suc, _*_, _≤_, _<_}
+use Prim.Native.Nat.{ℕ, suc, _*_, _≤_}
 use native.Mathlib.Omega.{arith}
 use lib.Dec.{ltb}
 use lib.IntN.{ℤ, pos, _+ℤ_}
 use lib.ListN.{length}
-use lib.Signed.{_≤ℤ_, _<ℤ_}
+use lib.Signed.{_≤ℤ_}
 use borrow.Author.Differences.{ints}
 use Rattle.std.specs.shelf.Lists.{All, Has}
 use Rattle.std.specs.declared.option.Option.the-variants.{Some}
 use Rattle.std.specs.declared.result.Result.the-variants.{Ok}
-use Rattle.std.proofs.shelf.Elements.{all-weaker, all-has, all-has-itself, all-append}
+use Rattle.std.proofs.shelf.Elements.{all-weaker, all-has, all-has-itself}
 use Rattle.std.proofs.shelf.Tests.{cond-both, eqb-false, cases-order}
 use Rattle.terms.specs.Meaning.{Meaning, Lawful}
-use Rattle.pick.proofs.Computed.{picked-picks}
 use Rattle.caps.specs.declared.Touch.{Touch}
 use Rattle.caps.specs.declared.Line.{Line}
 use Rattle.caps.specs.declared.Outlook.{Outlook}
-use Rattle.caps.specs.Touches.{Rising, Untouched, insert}
+use Rattle.caps.specs.Touches.{Untouched, insert}
 use Rattle.caps.specs.Stretches.{whole}
 use Rattle.caps.specs.Caps.{least, reach, cap, floor}
 use Rattle.caps.specs.Outlooks.{seen, outlook}
-use Rattle.caps.proofs.Lists.{order-after}
-use Rattle.caps.proofs.Extremes.{below-least, first-has, below-first}
+use Rattle.caps.proofs.Extremes.{below-least, first-has}
 use Rattle.caps.proofs.Room.{distance-same}
 use Rattle.caps.proofs.Peaks.{top-above}
 use Rattle.caps.proofs.Possible.{touched-or}
@@ -143,23 +141,10 @@ module _ (m : Meaning) (law : Lawful m) where
         (survey k .touches) o e (survey-of-at k .sound)
 
     floor-stands : (a : Touch) (ts : List Touch) → Sound m (a ∷ ts) → Floor-stands m (a ∷ ts) (floor a ts)
-    floor-stands a ts sound =
-        let H : Touch → ℤ = λ t. t .height in
-        let w : Touch = floor a ts in
-        let W : Touch → Type 0 = λ t. t .height ≡ floor a ts .height → floor a ts .position ≤ t .position in
-        let l = picked-picks (λ t. t .height) (a ∷ ts) in
-        record {
-          touched = first-has H (Has (a ∷ ts)) a ts (all-has-itself (a ∷ ts));
-          read = first-has H (λ t. m .reading (t .position) ≡ Ok (t .height)) a ts (sound .read);
-          highest = below-first H a ts;
-          lowest = subst (All W) (sym (l .there))
-              (all-append W (l .before) (w ∷ l .after)
-              (all-weaker (λ t. t .height <ℤ w .height) W (λ t k e. absurd (omega (arith, ints))) (l .before) (l .lower)) (
-                λ e. omega arith,
-                all-weaker (λ t. w .position < t .position) W (λ t k e. omega arith) (l .after)
-                    (order-after (λ t u. t .position < u .position) (l .before) w (l .after) (subst Rising (l .there) (sound .on-line .rising))),
-              ));
-        }
+    floor-stands a ts sound = record {
+      is-floor = laws-of-caps .floor-is-highest-and-lowest L a ts (sound .on-line);
+      read = first-has (λ t. t .height) (λ t. m .reading (t .position) ≡ Ok (t .height)) a ts (sound .read);
+    }
 
     pub floor-was-touched : (k : ℕ) (o : Outlook) → outlook L (survey k .touches) ≡ Some o → Floor-stands m (survey k .touches) (o .floor)
     floor-was-touched k o e = by-outlook L (λ ts o. Sound m ts → Floor-stands m ts (o .floor)) floor-stands (survey k .touches) o e (survey-of-at k .sound)

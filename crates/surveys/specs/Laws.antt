@@ -17,7 +17,7 @@ use Rattle.terms.specs.declared.refusal.Refusal.{Refusal}
 use Rattle.caps.specs.declared.Touch.{Touch}
 use Rattle.caps.specs.declared.Line.{Line}
 use Rattle.caps.specs.declared.Outlook.{Outlook}
-use Rattle.caps.specs.Caps.{None-above, most-touches}
+use Rattle.caps.specs.Caps.{Is-floor, None-above, most-touches}
 use Rattle.caps.specs.Outlooks.{outlook}
 use Rattle.caps.specs.Laws.{No-worse}
 use Rattle.surveys.specs.declared.calls.Call.{Call}
@@ -99,12 +99,10 @@ Later-never-worse w = (j k : ℕ) → j ≤ k → (o : Outlook) → outlook-at w
 abbrev pub Heights-under-ceiling : Work → Type 0
 Heights-under-ceiling w = (k : ℕ) (o : Outlook) → outlook-at w k ≡ Some o → (p : ℕ) (h : ℤ) → w .gauge .reading p ≡ Ok h → h ≤ℤ o .ceiling
 
--- The floor was touched, its height is the gauge's at its position, no touched height is above it, and none at a lower position equals it.
+-- The floor was touched: it is the largest touched height, at the lowest position that has it, and the gauge's height there.
 pub record Floor-stands (m : Meaning) (ts : List Touch) (floor : Touch) : Type 0 where
-  pub touched : Has ts floor
+  pub is-floor : Is-floor ts floor
   pub read : m .reading (floor .position) ≡ Ok (floor .height)
-  pub highest : All (λ t. t .height ≤ℤ floor .height) ts
-  pub lowest : All (λ t. t .height ≡ floor .height → floor .position ≤ t .position) ts
 
 -- That is so at each moment after the first touch.
 abbrev pub Floor-was-touched : Work → Type 0

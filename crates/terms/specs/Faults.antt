@@ -9,6 +9,10 @@ abbrev pub cause-number : Cause → ℕ
 cause-number Beyond = 1
 cause-number Unread = 2
 
+-- the name that stands for a layer
+abbrev pub layer-name : ℕ
+layer-name = 0
+
 -- the fault of the gauge of that name at p, beyond its last position
 abbrev pub beyond : ℕ → ℕ → Fault
 beyond p name = record { cause = Beyond; position = p; gauge = name; layers = 0 }

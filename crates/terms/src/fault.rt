@@ -1,6 +1,9 @@
 ghost use mathlib.Core.Path.{_≡_};
 ghost use Rattle.terms.specs.Faults.{raised, beyond, unread, cause-number};
 
+// The name that stands for a layer; the gauges at the bottom of a stack have names from 1 on.
+pub const LAYER: u8 = 0;
+
 // Why a reading has no height.
 #[derive(Clone, Copy, PartialEq, Eq, Debug)]
 pub enum Cause {
@@ -16,7 +19,7 @@ pub struct Fault {
     pub cause: Cause,
     // The position asked.
     pub position: u32,
-    // The name of the gauge that failed; 0 stands for a layer.
+    // The name of the gauge that failed, or LAYER.
     pub gauge: u8,
     // The number of layers that it came up through, at most 255.
     pub layers: u8,
@@ -82,5 +85,27 @@ impl Cause {
             Cause::Beyond => 1,
             Cause::Unread => 2,
         }
+    }
+}
+
+#[cfg(test)]
+mod tests {
+    use super::*;
+    use std::test::*;
+
+    // 300 layers count to 255, and all else of the fault stays.
+    #[test]
+    fn layers_stay_at_255() -> Result<(), Fail> {
+        let mut fault = Fault::unread(7, 3);
+        for _ in 0..300 {
+            fault = Fault::from(Raised::from(fault));
+        }
+        check_eq(
+            fault,
+            Fault {
+                layers: 255,
+                ..Fault::unread(7, 3)
+            },
+        )
     }
 }

@@ -16,7 +16,7 @@ impl Tent {
         ensures value { λ r. ⌜ r ≡ now (self .entry) .slope * distance position (now (self .entry) .crown) ⌝ }
         ensures bound { λ r. ⌜ r ≤ slope-max * last-max ⌝ }
     {
-        self.slope * position.abs_diff(self.crown)
+        position.abs_diff(self.crown) * self.slope
     }
 
     fn height_at(&self, position: u32) -> i32

@@ -26,7 +26,7 @@ impl Log {
         ensures free { λ r. ⌜ Free-aim (state-of (now (self .entry))) r ⌝ }
     {
         let seen = self.look();
-        if is_settled(seen, self.tolerance) {
+        if is_settled(seen, self.notes.tolerance) {
             return None;
         }
         Some(high_place(seen))
@@ -37,9 +37,9 @@ impl Log {
         ensures is { λ r. ⌜ r ≡ left-aim (state-of (now (self .entry))) ⌝ }
         ensures free { λ r. ⌜ Free-aim (state-of (now (self .entry))) r ⌝ }
     {
-        match lowest_open(self.line, self.touched(), self.tolerance) {
+        match lowest_open(self.notes.line, self.touched(), self.notes.tolerance) {
             Some(summit) => Some(summit.place),
-            None => { if self.count == 0 { Some(0) } else { None } }
+            None => { if self.notes.count == 0 { Some(0) } else { None } }
         }
     }
 }

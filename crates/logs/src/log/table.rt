@@ -4,9 +4,10 @@ ghost use mathlib.Core.Bool.{false};
 ghost use lib.ListN.{length};
 ghost use Rattle.terms.specs.Meaning.{Height};
 ghost use Rattle.caps.specs.Touches.{Within-limits, Sound, is-touched};
-ghost use Rattle.surveys.specs.States.{add, full, standing};
+ghost use Rattle.surveys.specs.States.{add, with-tolerance, full, standing};
 ghost use Rattle.logs.specs.Logs.{state-of, begun, Free};
 use crate::log::Log;
+use crate::log::Notes;
 use crate::setting::Setting;
 use caps::Line;
 use caps::Outlook;
@@ -34,32 +35,34 @@ impl Log {
         ensures { λ r. ⌜ state-of r ≡ begun line setting ⌝ }
     {
         Log {
-            line,
-            tolerance: setting.tolerance,
-            limit: setting.limit,
-            count: 0,
-            touches: [Touch {
-                position: 0,
-                height: 0,
-            }; PLACES],
+            notes: Notes {
+                line,
+                tolerance: setting.tolerance,
+                limit: setting.limit,
+                count: 0,
+                touches: [Touch {
+                    position: 0,
+                    height: 0,
+                }; PLACES],
+            },
         }
     }
 
     // The touches, in rising order of position.
     pub fn touched(&self) -> &[Touch]
         ensures items { λ r. ⌜ now r ≡ state-of (now (self .entry)) .touches ⌝ }
-        ensures sound { λ r. ⌜ Sound (now (self .entry) .line) (now r) ⌝ }
-        ensures count { λ r. ⌜ length (now r) ≡ now (self .entry) .count ⌝ }
+        ensures sound { λ r. ⌜ Sound (now (self .entry) .notes .line) (now r) ⌝ }
+        ensures count { λ r. ⌜ length (now r) ≡ now (self .entry) .notes .count ⌝ }
     {
-        let table = &self.touches[..];
-        &table[0..usize::from(self.count)]
+        let table = &self.notes.touches[..];
+        &table[0..usize::from(self.notes.count)]
     }
 
     // Floor, ceiling and the untouched position of largest cap. None before the first touch.
     pub fn look(&self) -> Option<Outlook>
         ensures { λ r. ⌜ r ≡ standing (state-of (now (self .entry))) ⌝ }
     {
-        look(self.line, self.touched())
+        look(self.notes.line, self.touched())
     }
 
     // The number of touches.
@@ -73,7 +76,7 @@ impl Log {
     pub fn is_full(&self) -> bool
         ensures { λ r. ⌜ r ≡ full (state-of (now (self .entry))) ⌝ }
     {
-        self.number_of_touches() == self.limit
+        self.number_of_touches() == self.notes.limit
     }
 
     // Whether the position is touched.
@@ -83,6 +86,16 @@ impl Log {
         has_touch(self.touched(), position)
     }
 
+    // Sets the tolerance, and leaves every touch.
+    pub fn set_tolerance(&mut self, tolerance: u16)
+        ensures { λ _. ⌜ state-of (now (self .exit)) ≡ with-tolerance tolerance (state-of (now (self .entry))) ⌝ }
+    {
+        self.notes = Notes {
+            tolerance,
+            ..self.notes
+        };
+    }
+
     // Puts a touch in at its place.
     pub fn insert(&mut self, touch: Touch)
         requires room { ⌜ full (state-of (now self)) ≡ false ⌝ }
@@ -90,7 +103,11 @@ impl Log {
         requires height { ⌜ Height (touch .height) ⌝ }
         ensures { λ _. ⌜ state-of (now (self .exit)) ≡ add touch (state-of (now (self .entry))) ⌝ }
     {
-        insert_touch(&mut self.touches, usize::from(self.count), touch);
-        self.count += 1;
+        insert_touch(
+            &mut self.notes.touches,
+            usize::from(self.notes.count),
+            touch,
+        );
+        self.notes.count += 1;
     }
 }

@@ -8,12 +8,12 @@ loop-i-holds c = omega arith
 
 pub loop-i-again : need.loop-i-again
 loop-i-again c =
-    let e = before-here (c .args .position) (c .args .touches .now) (c .loop-i .i) (omega arith) (c .if-position-touch .left) in
+    let e = before-here (c .args .position) (c .args .touches .now) (c .loop-i .i) (omega arith) (sym (c .is-after .ensures) ∙ c .if-is-after .left) in
     omega arith
 
-pub returns-then-position-touch : need.returns-then-position-touch
-returns-then-position-touch c =
-    let e = before-stop (c .args .position) (c .args .touches .now) (c .loop-i .i) (omega arith) (c .if-position-touch .taken) in
+pub returns-then-is-after : need.returns-then-is-after
+returns-then-is-after c =
+    let e = before-stop (c .args .position) (c .args .touches .now) (c .loop-i .i) (omega arith) (sym (c .is-after .ensures) ∙ c .if-is-after .taken) in
     omega arith
 
 pub returns : need.returns

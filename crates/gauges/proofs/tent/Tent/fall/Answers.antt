@@ -1,6 +1,6 @@
-use mathlib.Core.Path.{_≡_, ap}
+use mathlib.Core.Path.{_≡_, ap, _∙_}
 use Prim.Native.Nat.{ℕ, _+_, _-_, _*_, _≤_}
-use native.Mathlib.Nat.{mul-le-mul}
+use native.Mathlib.Nat.{mul-comm, mul-le-mul}
 use native.Mathlib.Omega.{arith}
 use Rattle.terms.specs.Limits.{last-max, slope-max}
 use Rattle.terms.specs.Meaning.{distance}
@@ -15,4 +15,4 @@ returns c =
     let t = c .args .self .now in
     let e = is-distance (c .abs-diff .result) (c .args .position) (t .crown) (c .abs-diff .ensures) in
     let d : c .abs-diff .result ≤ last-max = omega (arith, t .crowned, t .lasts) in
-    record { value = ap (λ n. t .slope * n) e; bound = mul-le-mul {n₂ = slope-max} {m₂ = last-max} (t .slopes .1) d }
+    record { value = mul-comm (c .abs-diff .result) (t .slope) ∙ ap (λ n. t .slope * n) e; bound = mul-le-mul {n₂ = last-max} {m₂ = slope-max} d (t .slopes .1) }

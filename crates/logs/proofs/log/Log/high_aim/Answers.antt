@@ -10,6 +10,6 @@ use Rattle.logs.proofs.log.Log.high_aim.Needs as need
 pub returns : need.returns
 returns c =
     let l = c .args .self .now in
-    let open-now = sym (c .if-is-settled .ensures tt ∙ ap (λ (o : Option Outlook). settled-by o (l .tolerance)) (c .look-seen .ensures)) in
+    let open-now = sym (c .if-is-settled .ensures tt ∙ ap (λ (o : Option Outlook). settled-by o (l .notes .tolerance)) (c .look-seen .ensures)) in
     let r = high-open (state-of l) (log-sound l .on-line) open-now (c .high-place .result) (c .high-place .ensures ∙ ap place-seen (c .look-seen .ensures)) in
     record { is = r .0; free = r .1 }

@@ -14,10 +14,10 @@ ghost-self c =
     let l = c .args .self .now in
     let u = c .args .touch in
     let table = c .insert-touch .last .table in
-    let T = c .args .self .now .touches in
+    let T = c .args .self .now .notes .touches in
     let is = c .insert-touch .ensures .is ∙ ap (λ n. insert u (take n T) ++ drop (n + 1) T) (c .from .ensures) in
     let below = count-below l u table is (c .pre .room) in
-    let long : length (c .insert-touch .last .table) ≡ length (c .args .self .now .touches) = omega arith in (
+    let long : length (c .insert-touch .last .table) ≡ length (c .args .self .now .notes .touches) = omega arith in (
       omega arith,
       (
         l .room,
@@ -48,6 +48,6 @@ returns c =
     let l = c .args .self .now in
     let u = c .args .touch in
     let table = c .insert-touch .last .table in
-    let T = c .args .self .now .touches in
+    let T = c .args .self .now .notes .touches in
     let is = c .insert-touch .ensures .is ∙ ap (λ n. insert u (take n T) ++ drop (n + 1) T) (c .from .ensures) in
-    ap (λ (us : List Touch). record { line = l .line; tolerance = l .tolerance; limit = l .limit; touches = us }) (touches-then l u table is (c .pre .room))
+    ap (λ (us : List Touch). record { line = l .notes .line; tolerance = l .notes .tolerance; limit = l .notes .limit; touches = us }) (touches-then l u table is (c .pre .room))

@@ -11,6 +11,6 @@ use Rattle.logs.proofs.log.Log.touched.Needs as need
 pub returns : need.returns
 returns c =
     let l = c .args .self .now in
-    let e : c .from .result - 0 ≡ c .args .self .now .count = omega (arith, c .from .ensures) in
-    let items = ap (λ n. take n (l .touches)) e in
-    record { items = items; sound = subst (Sound (l .line)) (sym items) (log-sound l); count = ap (λ (ts : List Touch). length ts) items ∙ count-is l }
+    let e : c .from .result - 0 ≡ c .args .self .now .notes .count = omega (arith, c .from .ensures) in
+    let items = ap (λ n. take n (l .notes .touches)) e in
+    record { items = items; sound = subst (Sound (l .notes .line)) (sym items) (log-sound l); count = ap (λ (ts : List Touch). length ts) items ∙ count-is l }

@@ -1,0 +1,3 @@
+pub mod Heads
+pub mod Touches
+pub mod Bounds

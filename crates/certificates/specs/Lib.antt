@@ -1,0 +1,4 @@
+pub mod Layout
+pub mod Verdict
+pub mod Steps
+pub mod Theorem
