@@ -41,6 +41,7 @@ line-of reading s verb (Some c) os =
     (stands verb _ (t .line) (t .tolerance) (t .limit) (t .touches), refl)
 
 pub lines-as-told : (reading : Readings) (s : State) (os : List Order) → lines-told os (answers-to reading s (asked os)) ≡ transcript reading s os
+unfolding transcript
 lines-as-told reading s [] = refl
 lines-as-told reading s (o ∷ os) =
     let l = line-of reading s (verb-of o) (call-of o) os in

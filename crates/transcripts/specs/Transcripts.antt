@@ -35,7 +35,7 @@ state-after reading s None = s
 state-after reading s (Some c) = outcome reading s c .after
 
 -- what is printed for the lines of an input, from that survey on
-abbrev pub transcript : Readings → State → List Order → List ℕ
+unfoldable pub transcript : Readings → State → List Order → List ℕ
 transcript reading s [] = []
 transcript reading s (o ∷ os) =
     printed-line (verb-of o) (number-after reading s (call-of o)) (state-after reading s (call-of o))
@@ -61,12 +61,13 @@ gauge-of sheet = record-meaning sheet gauge-name
 abbrev pub survey-of : List ℕ → State
 survey-of sheet = opened (gauge-of sheet) start-tolerance touches-max
 
+-- an input of more bytes prints the one line `long`
+abbrev pub unless-long : List ℕ → List ℕ → List ℕ
+unless-long input text = cond (ltb input-max (length input)) (codes "long" ++ line-end ∷ []) text
+
 -- what is printed for an accepted record
 abbrev pub printed-for : List ℕ → List ℕ → List ℕ
-printed-for sheet input =
-    cond (ltb input-max (length input))
-    (codes "long" ++ line-end ∷ [])
-    (transcript (gauge-of sheet .reading) (survey-of sheet) (orders input))
+printed-for sheet input = unless-long input (transcript (gauge-of sheet .reading) (survey-of sheet) (orders input))
 
 -- a refused record prints only `sheet` and the number
 abbrev pub by-verdict : Verdict → List ℕ → List ℕ

@@ -1,3 +1,4 @@
 // What the command program prints.
 pub mod entry;
-pub mod lines;
+mod lines;
+pub mod print;
