@@ -14,7 +14,7 @@ ghost use Rattle.records.specs.Verdict.{record-verdict};
 ghost use Rattle.surveys.specs.Moments.{answers-to};
 ghost use Rattle.commands.specs.Lines.{line-end};
 ghost use Rattle.commands.specs.Orders.{orders};
-ghost use Rattle.transcripts.specs.Talks.{Every-talk-keeps-the-law, Reads-enough, Six-words};
+ghost use Rattle.transcripts.specs.Talks.{Every-talk-keeps-the-law, Reads-enough, Six-words, sheet-read, input-read};
 ghost use Rattle.transcripts.specs.Transcripts.{gauge-name, start-tolerance, gauge-of, survey-of, transcript, printed-for, printed};
 use crate::lines::gather_calls;
 use crate::lines::print_lines;
@@ -32,6 +32,9 @@ use terms::refusal::Refusal;
 
 // The name of the record's gauge.
 const GAUGE_NAME: u8 = 1;
+
+// The most bytes of a record.
+const SHEET_MAX: u64 = 8_008;
 
 // The most bytes of an input.
 const INPUT_MAX: usize = 4_096;
@@ -106,6 +109,28 @@ fn test_sheet(sheet: &[u8]) -> Result<(), Refusal>
     ensures words { λ _. ⌜ Six-words ⌝ }
 {
     check(sheet, GAUGE_NAME)
+}
+
+// How many bytes of a record are read: one more than the longest has.
+pub fn sheet_bound() -> u64
+    ensures { λ r. ⌜ r ≡ sheet-read ⌝ }
+{
+    SHEET_MAX + 1
+}
+
+// How many bytes of an input are read: one more than the longest has.
+pub fn input_bound() -> u64
+    ensures { λ r. ⌜ r ≡ input-read ⌝ }
+{
+    INPUT_MAX as u64 + 1
+}
+
+// Whether the record is accepted; a refused one prints the same for every input, so that none has to be read.
+pub fn is_accepted(sheet: &[u8]) -> bool
+    ensures accepted { λ r. ⌜ r ≡ isOk (record-verdict (now (sheet .entry)) gauge-name) ⌝ }
+    ensures reads { λ _. ⌜ Reads-enough ⌝ }
+{
+    test_sheet(sheet).is_ok()
 }
 
 // What the program prints for the bytes of a record and of an input.
