@@ -4,3 +4,4 @@ pub mod Given
 pub mod Bounded
 pub mod Talks
 pub mod Words
+pub mod Examples

@@ -1,8 +1,9 @@
 -- What holds of everything that the program prints.
 use mathlib.Core.Path.{_≡_}
 use mathlib.Core.Bool.{true, false}
-use mathlib.Core.List.{List}
+use mathlib.Core.List.{List, [], _∷_}
 use Prim.Native.Nat.{ℕ, _+_, _*_, _<_}
+use lib.Chars.{codes}
 use lib.ListN.{length, take}
 use Rattle.std.specs.Pieces.{Lacks}
 use Rattle.std.specs.Results.{isOk}
@@ -75,3 +76,15 @@ pub record Are-six (ws : List (List ℕ)) : Type 0 where
 
 abbrev pub Six-words : Type 0
 Six-words = (o : Order) (number touches : ℕ) (bounds : Option Bounds) → Are-six (words (verb-of o) number touches bounds)
+
+-- The record of the worked example: last 10, slope 5, slack 0, heights 0 4 8 10 9 5 6 9 7 3 0.
+abbrev pub sheet-a-record : List ℕ
+sheet-a-record =
+    0x00 ∷ 0xa0 ∷ 0x00 ∷ 0x50 ∷ 0x00 ∷ 0x00 ∷ 0x00 ∷ 0x00 ∷ 0x00 ∷ 0x40 ∷ 0x00 ∷ 0x80 ∷ 0x00 ∷ 0xa0 ∷
+    0x00 ∷ 0x90 ∷ 0x00 ∷ 0x50 ∷ 0x00 ∷ 0x60 ∷ 0x00 ∷ 0x90 ∷ 0x00 ∷ 0x70 ∷ 0x00 ∷ 0x30 ∷ 0x00 ∷ 0x00 ∷ []
+
+pub record Worked-talk : Type 0 where
+  -- the last line has no line end
+  pub example : printed sheet-a-record (codes "tol 3\nhigh\nrun 9\nhigh") ≡ codes "tol 0 0 - - -\nhigh 0 1 0 0 50\nrun 13 5 3 10 10\nhigh 13 5 3 10 10\n"
+  -- a missing file counts as empty
+  pub missing : (input : List ℕ) → printed [] input ≡ codes "sheet 1\n"

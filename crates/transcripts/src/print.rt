@@ -14,7 +14,7 @@ ghost use Rattle.records.specs.Verdict.{record-verdict};
 ghost use Rattle.surveys.specs.Moments.{answers-to};
 ghost use Rattle.commands.specs.Lines.{line-end};
 ghost use Rattle.commands.specs.Orders.{orders};
-ghost use Rattle.transcripts.specs.Talks.{Every-talk-keeps-the-law, Reads-enough, Six-words, sheet-read, input-read};
+ghost use Rattle.transcripts.specs.Talks.{Every-talk-keeps-the-law, Reads-enough, Six-words, Worked-talk, sheet-read, input-read};
 ghost use Rattle.transcripts.specs.Transcripts.{gauge-name, start-tolerance, gauge-of, survey-of, transcript, printed-for, printed};
 use crate::lines::gather_calls;
 use crate::lines::print_lines;
@@ -107,6 +107,7 @@ fn test_sheet(sheet: &[u8]) -> Result<(), Refusal>
     ensures law { λ _. ⌜ Every-talk-keeps-the-law ⌝ }
     ensures reads { λ _. ⌜ Reads-enough ⌝ }
     ensures words { λ _. ⌜ Six-words ⌝ }
+    ensures example { λ _. ⌜ Worked-talk ⌝ }
 {
     check(sheet, GAUGE_NAME)
 }
@@ -139,6 +140,7 @@ pub fn print(heap: Global, sheet: &[u8], input: &[u8]) -> Result<String, AllocEr
     ensures law { λ _. ⌜ Every-talk-keeps-the-law ⌝ }
     ensures reads { λ _. ⌜ Reads-enough ⌝ }
     ensures words { λ _. ⌜ Six-words ⌝ }
+    ensures example { λ _. ⌜ Worked-talk ⌝ }
 {
     match test_sheet(sheet) {
         Err(refusal) => refuse(heap, refusal),
