@@ -1,0 +1,5 @@
+pub mod Pieces
+pub mod Lines
+pub mod Orders
+pub mod Scripts
+pub mod Theorems

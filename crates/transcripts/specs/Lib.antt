@@ -1,0 +1,4 @@
+pub mod Entries
+pub mod Told
+pub mod Transcripts
+pub mod Talks
