@@ -3,6 +3,7 @@ pub mod Extremes
 pub mod Room
 pub mod Extension
 pub mod Peaks
+pub mod Floors
 pub mod Possible
 pub mod Inserts
 pub mod Spacing

@@ -1,5 +1,6 @@
 -- The laws hold.
 use Rattle.caps.specs.Laws.{Laws-of-caps, Laws-of-gaps, Laws-of-one-more}
+use Rattle.caps.proofs.Floors.{floor-is-highest-and-lowest}
 use Rattle.caps.proofs.Possible.{caps-possible, possible-below, settled-exactly}
 use Rattle.caps.proofs.Spacing.{high-cap-is-far, spacing-of-one, few-lie-apart}
 use Rattle.caps.proofs.Crossings.{largest-beside-the-crossing, largest-before-all-touches, largest-after-all-touches}
@@ -10,6 +11,7 @@ use Rattle.caps.proofs.Inserts.{stays-lawful, every-touch-stays, never-worse}
 
 pub laws-of-caps : Laws-of-caps
 laws-of-caps = record {
+  floor-is-highest-and-lowest = floor-is-highest-and-lowest;
   caps-make-a-possible-sheet = caps-possible;
   no-sheet-above-a-cap = possible-below;
   settled-exactly = settled-exactly;

@@ -8,7 +8,7 @@ use lib.ListN.{length, getD}
 use lib.IntN.{ℤ, pos, _+ℤ_}
 use lib.Signed.{_≤ℤ_}
 use Rattle.std.specs.Numbers.{minZ}
-use Rattle.std.specs.shelf.Lists.{All}
+use Rattle.std.specs.shelf.Lists.{All, Has}
 use Rattle.pick.specs.Picks.{first-highest}
 use Rattle.terms.specs.Meaning.{distance, Keeps}
 use Rattle.caps.specs.declared.Touch.{Touch}
@@ -43,6 +43,12 @@ ceiling line ts = top (cap line ts) (whole line)
 -- the largest touched height, at the lowest position that has it: the pick of the touches a and ts by height
 abbrev pub floor : Touch → List Touch → Touch
 floor a ts = first-highest (λ t. t .height) a ts
+
+-- t is a touch, no touched height is above its height, and no touch at a lower position has the same
+pub record Is-floor (ts : List Touch) (t : Touch) : Type 0 where
+  pub touched : Has ts t
+  pub highest : All (λ u. u .height ≤ℤ t .height) ts
+  pub lowest : All (λ u. u .height ≡ t .height → t .position ≤ u .position) ts
 
 -- the caps of positions 0 to last
 abbrev pub sheet-of-caps : Line → List Touch → List ℤ

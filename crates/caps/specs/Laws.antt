@@ -19,13 +19,15 @@ use Rattle.caps.specs.declared.Summit.{Summit}
 use Rattle.caps.specs.declared.Outlook.{Outlook}
 use Rattle.caps.specs.Touches.{On-line, Agree, Lawful-touches, Untouched, insert}
 use Rattle.caps.specs.Stretches.{Stretch, top-place, top, summit-of}
-use Rattle.caps.specs.Caps.{least, cap, ceiling, floor, sheet-of-caps, Possible, None-above, Apart, spacing, most-touches}
+use Rattle.caps.specs.Caps.{least, cap, ceiling, floor, Is-floor, sheet-of-caps, Possible, None-above, Apart, spacing, most-touches}
 use Rattle.caps.specs.Gaps.{Is-gap, gaps, Ascending, mapped, high-summit, highest-gap, Highest-untouched, Lowest-above}
 use Rattle.caps.specs.Outlooks.{outlook, is-settled, lowest-open}
 use Rattle.caps.specs.Crossings.{rise, fall, roof, crossing, beside}
 
 -- The touches a and ts of a line, and what their caps say of the sheet.
 pub record Laws-of-caps : Type 0 where
+  -- the floor is the largest touched height, at the lowest position that has it
+  pub floor-is-highest-and-lowest : (line : Line) (a : Touch) (ts : List Touch) → On-line line (a ∷ ts) → Is-floor (a ∷ ts) (floor a ts)
   -- the caps make a possible sheet
   pub caps-make-a-possible-sheet : (line : Line) (a : Touch) (ts : List Touch) → Lawful-touches line (a ∷ ts) →
       Possible line (a ∷ ts) (sheet-of-caps line (a ∷ ts))
