@@ -12,6 +12,7 @@ use Rattle.caps.specs.Stretches.{whole}
 use Rattle.caps.specs.Caps.{cap}
 use Rattle.caps.proofs.Peaks.{top-above}
 use Rattle.caps.proofs.Proved.{laws-of-caps}
+use Rattle.surveys.proofs.Later.{heights-under-ceiling}
 use Rattle.certificates.specs.Theorem.{Certificate-bounds}
 
 under : (a b : ℤ) → leZ a b ≡ true → a ≤ℤ b
@@ -25,6 +26,7 @@ certificate-bounds = record {
       let t = top-above (cap line (a ∷ ts)) (whole line) x (omega arith) l in
       omega (arith, ints, s, t);
   near-the-floor = λ line a ts tolerance settled. under _ _ settled;
+  no-height-above = heights-under-ceiling;
   thirty = refl;
   twenty-nine = refl;
 }

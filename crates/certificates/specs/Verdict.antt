@@ -15,6 +15,7 @@ use Rattle.caps.specs.declared.Touch.{Touch}
 use Rattle.caps.specs.declared.Line.{Line}
 use Rattle.caps.specs.declared.Outlook.{Outlook}
 use Rattle.caps.specs.Outlooks.{outlook, settled-by}
+use Rattle.surveys.specs.States.{State}
 use Rattle.certificates.specs.Layout.{certificate-with, certificate-size}
 
 -- what the touches of a settled survey tell: else 19, nothing is touched, or 20, it is not settled
@@ -45,3 +46,10 @@ left-by line tolerance ts old (Err e) = old
 
 abbrev pub certificate-leaves : Line → ℕ → List Touch → List ℕ → List ℕ
 certificate-leaves line tolerance ts old = left-by line tolerance ts old (certified line tolerance ts (length old))
+
+-- The same of a survey: its line, its tolerance and its touches are all that counts.
+abbrev pub verdict-on : State → ℕ → Result ℕ Refusal
+verdict-on s room = certificate-verdict (s .line) (s .tolerance) (s .touches) room
+
+abbrev pub left-by-survey : State → List ℕ → List ℕ
+left-by-survey s old = certificate-leaves (s .line) (s .tolerance) (s .touches) old

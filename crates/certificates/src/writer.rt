@@ -11,7 +11,8 @@ ghost use Rattle.caps.specs.Touches.{Sound, Within-limits};
 ghost use Rattle.caps.specs.Outlooks.{outlook};
 ghost use Rattle.certificates.specs.Layout.{certificate-fields, certificate-with, certificate-size};
 ghost use Rattle.certificates.specs.Theorem.{Certificate-bounds};
-ghost use Rattle.certificates.specs.Verdict.{settled-or, with-room, certified, certificate-verdict, certificate-leaves};
+ghost use Rattle.logs.specs.Logs.{state-of};
+ghost use Rattle.certificates.specs.Verdict.{settled-or, with-room, certified, certificate-verdict, certificate-leaves, verdict-on, left-by-survey};
 ghost use Rattle.certificates.specs.Steps.{Head-written, Touch-written, Touches-written};
 use crate::layout::CEILING_AT;
 use crate::layout::CEILING_WIDTH;
@@ -36,6 +37,7 @@ use envelope::looks::is_settled;
 use envelope::looks::look;
 use fields::put;
 use fields::put_signed;
+use logs::log::Log;
 use terms::refusal::Refusal;
 
 // The bytes of a certificate with that many touches.
@@ -87,7 +89,12 @@ fn with_room(seen: Outlook, size: usize, room: usize) -> Result<Outlook, Refusal
 }
 
 // The same, where the buffer has room for the certificate.
-fn certify(line: Line, tolerance: u16, touches: &[Touch], room: usize) -> Result<Outlook, Refusal>
+fn settled_with_room(
+    line: Line,
+    tolerance: u16,
+    touches: &[Touch],
+    room: usize,
+) -> Result<Outlook, Refusal>
     requires { ⌜ Sound line (now touches) ⌝ }
     ensures is { λ r. ⌜ r ≡ certified line tolerance (now (touches .entry)) room ⌝ }
     ensures within { λ r. ⌜ made r (λ o. o .floor .position ≤ line .last) ⌝ }
@@ -156,19 +163,23 @@ fn write_fields(buf: &mut [u8], line: Line, tolerance: u16, touches: &[Touch], s
     write_touches(buf, touches);
 }
 
-// Writes the certificate of a settled survey to the front of `buf` and answers how many bytes it has; a refusal leaves `buf` as it was.
-pub fn write(
-    buf: &mut [u8],
-    line: Line,
-    tolerance: u16,
-    touches: &[Touch],
-) -> Result<usize, Refusal>
+// Writes the certificate of these touches, unless it is refused.
+fn write(buf: &mut [u8], line: Line, tolerance: u16, touches: &[Touch]) -> Result<usize, Refusal>
     requires { ⌜ Sound line (now touches) ⌝ }
     ensures answer { λ r. ⌜ r ≡ certificate-verdict line tolerance (now (touches .entry)) (length (now (buf .entry))) ⌝ }
     ensures bytes { λ _. ⌜ now (buf .exit) ≡ certificate-leaves line tolerance (now (touches .entry)) (now (buf .entry)) ⌝ }
     ensures bounds { λ _. ⌜ Certificate-bounds ⌝ }
 {
-    let seen = certify(line, tolerance, touches, buf.len())?;
+    let seen = settled_with_room(line, tolerance, touches, buf.len())?;
     write_fields(buf, line, tolerance, touches, seen);
     Ok(size(touches.len()))
+}
+
+// Writes the certificate of a settled survey to the front of `buf` and answers how many bytes it has; a refusal leaves `buf` as it was.
+pub fn certify(log: &Log, buf: &mut [u8]) -> Result<usize, Refusal>
+    ensures answer { λ r. ⌜ r ≡ verdict-on (state-of (now (log .entry))) (length (now (buf .entry))) ⌝ }
+    ensures bytes { λ _. ⌜ now (buf .exit) ≡ left-by-survey (state-of (now (log .entry))) (now (buf .entry)) ⌝ }
+    ensures bounds { λ _. ⌜ Certificate-bounds ⌝ }
+{
+    write(buf, log.notes.line, log.notes.tolerance, log.touched())
 }

@@ -10,7 +10,7 @@ use caps::Touch;
 use caps::sound::PLACES;
 
 // Writes, for each place, the least of height + slope × position over the touches from there on.
-pub(crate) fn fill_falls(line: Line, touches: &[Touch], falls: &mut [i32; PLACES])
+pub fn fill_falls(line: Line, touches: &[Touch], falls: &mut [i32; PLACES])
     requires sound { ⌜ Sound line (now touches) ⌝ }
     requires long { ⌜ length (now falls) ≡ touches-max ⌝ }
     ensures { λ _. ⌜ Falls line (now (touches .entry)) (now (falls .exit)) ⌝ }

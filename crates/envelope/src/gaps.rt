@@ -76,7 +76,7 @@ pub impl<'t, 'f> Source for Gaps<'t, 'f> as GapsSource {
 }
 
 // The gaps of a line, from the lowest on.
-pub(crate) fn gaps_of<'t, 'f>(line: Line, touches: &'t [Touch], falls: &'f [i32]) -> Gaps<'t, 'f>
+pub fn gaps_of<'t, 'f>(line: Line, touches: &'t [Touch], falls: &'f [i32]) -> Gaps<'t, 'f>
     requires sound { ⌜ Sound line (now touches) ⌝ }
     requires some { ⌜ 0 < length (now touches) ⌝ }
     requires table { ⌜ Falls line (now touches) (now falls) ⌝ }
