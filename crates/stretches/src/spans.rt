@@ -7,6 +7,7 @@ ghost use Rattle.std.specs.Vec.{made};
 ghost use Rattle.caps.specs.Touches.{Sound};
 ghost use Rattle.logs.specs.Logs.{state-of};
 ghost use Rattle.stretches.specs.Spans.{spans-from, spans, span-with};
+ghost use Rattle.stretches.specs.Laws.{Laws-of-spans};
 use caps::Line;
 use caps::Summit;
 use caps::SummitDebug;
@@ -70,7 +71,8 @@ fn spans_beside(heap: Global, line: Line, touches: &[Touch]) -> Result<Vec<Span>
 // The gaps beside these touches; none before the first touch.
 fn spans_of(heap: Global, line: Line, touches: &[Touch]) -> Result<Vec<Span>, AllocError>
     requires { ⌜ Sound line (now touches) ⌝ }
-    ensures { λ r. ⌜ made r (λ v. vec-items v ≡ spans line (now (touches .entry))) ⌝ }
+    ensures is { λ r. ⌜ made r (λ v. vec-items v ≡ spans line (now (touches .entry))) ⌝ }
+    ensures laws { λ _. ⌜ Laws-of-spans ⌝ }
 {
     if touches.len() == 0 {
         return Ok(Vec::new(heap));
@@ -80,7 +82,8 @@ fn spans_of(heap: Global, line: Line, touches: &[Touch]) -> Result<Vec<Span>, Al
 
 // Each gap in rising order, with its ends, its largest cap and that cap's lowest place. None before the first touch: there is no cap then.
 pub fn spans(heap: Global, log: &Log) -> Result<Vec<Span>, AllocError>
-    ensures { λ r. ⌜ made r (λ v. vec-items v ≡ spans (state-of (now (log .entry)) .line) (state-of (now (log .entry)) .touches)) ⌝ }
+    ensures is { λ r. ⌜ made r (λ v. vec-items v ≡ spans (state-of (now (log .entry)) .line) (state-of (now (log .entry)) .touches)) ⌝ }
+    ensures laws { λ _. ⌜ Laws-of-spans ⌝ }
 {
     spans_of(heap, log.notes.line, log.touched())
 }
