@@ -3,7 +3,7 @@ use mathlib.Core.Path.{_≡_, refl, sym, ap, _∙_}
 use mathlib.Core.List.{List, [], _∷_}
 use mathlib.Core.Bool.{true, false, cond, _&&_}
 use Prim.Native.Nat.{ℕ, _+_, _-_, _*_, _^_, _<_, _≤_}
-use lib.Dec.{leb, eqb}
+use lib.Dec.{leb}
 use lib.ListN.{length, getD, drop}
 use native.Mathlib.Nat.{pow-suc}
 use native.Mathlib.Numerals.{add-one}
@@ -14,7 +14,7 @@ use Rattle.std.specs.shelf.Text.{allDigits}
 use Rattle.std.specs.declared.option.Option.the-variants.{Some, None}
 use Rattle.std.proofs.shelf.Lists.{at-drop-more, at-drop-all}
 use Rattle.std.proofs.shelf.Numerals.{Numerals, numerals-by-fold, numerals-by-weight, tells-allDigits}
-use Rattle.std.proofs.shelf.Tests.{eqb-false, le-leb, and-left, and-right, and-from, cond-true, cond-false}
+use Rattle.std.proofs.shelf.Tests.{le-leb, and-left, and-right, and-from, cond-true, cond-false}
 use Rattle.commands.specs.Orders.{value, is-number, number-of}
 
 -- the number so far, and then the digits that follow
@@ -45,9 +45,6 @@ read-next xs i n h = at-drop-more (read-on n) xs i 0 h
 
 pub pow-next : (n d i : ℕ) → n < 10 ^ i → d ≤ 9 → 10 * n + d < 10 ^ (i + 1)
 pow-next n d i h k = rw (add-one, pow-suc) (omega arith)
-
-pub not-empty : (xs : List ℕ) → eqb (length xs) 0 ≡ false → 1 ≤ length xs
-not-empty xs h = let n = eqb-false (length xs) 0 h in omega arith
 
 pub digits-all : (xs : List ℕ) (i n : ℕ) → length xs ≤ i → 1 ≤ length xs → length xs ≤ 5 → allDigits (drop i xs) ≡ allDigits xs → read-on n (drop i xs) ≡ read-on 0 xs → Some n ≡ number-of xs
 digits-all xs i n h a b e f =

@@ -16,7 +16,7 @@ use Rattle.std.proofs.shelf.Parts.{between-is}
 use Rattle.std.proofs.shelf.Tests.{cond-both, cases-lt}
 use Rattle.commands.specs.declared.command.Command.{Command}
 use Rattle.commands.specs.Pieces.{Piece, end-of, Stands-in}
-use Rattle.commands.specs.Lines.{before, lines-from, Is-next}
+use Rattle.commands.specs.Lines.{space, before, lines-from, Is-next}
 use Rattle.commands.specs.Orders.{Order, high, left, ask, at, run, tol, unknown, Words-stand, alone, numbered, perhaps-numbered, before-space, after-space, spaced, number-of, order-of, orders-from, Is-next-order, Next-order}
 use Rattle.commands.proofs.Lines.{part-at}
 
@@ -39,7 +39,7 @@ perhaps-stands input l v d (Some n) h a b = numbered-stands input l v d n h a b
 take-stands : (input bs : List ℕ) (p n : ℕ) → Stands-in input (part-at bs p) → Stands-in input (part-at (take n bs) p)
 take-stands input bs p n h =
     ⊎-elim
-    (λ q. let a : length bs ≤ n = omega arith in rw take-all h)
+    (λ q. subst (λ (part : List ℕ). part ≡ take (length part) (drop p input)) (sym (take-all n bs (omega arith))) h)
     (λ q. ap (take n) h ∙ take-take n (length bs) (drop p input) q ∙ ap (λ k. take k (drop p input)) (sym (length-take-le n bs q)))
     (cases-lt (length bs) n)
 
@@ -57,9 +57,9 @@ spaced-stands input l n h =
 
 pub order-stands : (input : List ℕ) (l : Piece) → Stands-in input l → Words-stand input (order-of l)
 order-stands input l h =
-    cond-both (eqb (before 32 (l .bytes)) (length (l .bytes))) (alone l) _ (Words-stand input)
+    cond-both (eqb (before space (l .bytes)) (length (l .bytes))) (alone l) _ (Words-stand input)
     (λ _. alone-stands input l h)
-    (λ _. spaced-stands input l (before 32 (l .bytes)) h)
+    (λ _. spaced-stands input l (before space (l .bytes)) h)
 
 pub next-order : (input : List ℕ) (p : ℕ) (l : Piece) (o : Order) → Is-next input p l → o ≡ order-of l → Is-next-order input p o (end-of l)
 next-order input p l o n e = record {

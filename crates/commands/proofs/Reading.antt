@@ -1,25 +1,23 @@
 -- A line as the code takes it apart.
-use mathlib.Core.Path.{_≡_, sym, _∙_}
-use Prim.Native.Nat.{ℕ, _+_, _-_}
+use mathlib.Core.Path.{_≡_, sym, ap, _∙_}
+use Prim.Native.Nat.{ℕ}
 use lib.Dec.{eqb}
-use lib.ListN.{length, drop, take}
-use native.Mathlib.Omega.{arith}
+use lib.ListN.{length}
 use Rattle.std.specs.declared.option.Option.{Option}
-use Rattle.std.proofs.shelf.Parts.{between-to-end}
+use Rattle.std.specs.declared.option.Option.the-variants.{Some, None}
 use Rattle.std.proofs.shelf.Tests.{ne-eqb, cond-false}
 use Rattle.commands.specs.Pieces.{Piece}
-use Rattle.commands.specs.Lines.{before}
-use Rattle.commands.specs.Orders.{Order, alone, perhaps-numbered, spaced, order-of, number-of}
+use Rattle.commands.specs.Lines.{space, before}
+use Rattle.commands.specs.Orders.{Order, alone, numbered, perhaps-numbered, before-space, after-space, spaced, order-of, number-of}
 
-abbrev pub verb-cut : Piece → ℕ → Piece
-verb-cut l n = record { bytes = take (n - 0) (l .bytes); place = l .place }
+-- the line has a space, at n
+module _ (l : Piece) (n : ℕ) (e : n ≡ before space (l .bytes)) (ne : n ≡ length (l .bytes) → ⊥) where
+  has-space : spaced l n ≡ order-of l
+  has-space = ap (spaced l) e ∙ sym (cond-false (eqb (before space (l .bytes)) (length (l .bytes))) (alone l) (spaced l (before space (l .bytes))) (ne-eqb _ _ (λ q. ne (e ∙ q))))
 
-abbrev pub digits-cut : Piece → ℕ → Piece
-digits-cut l n = record { bytes = take (length (l .bytes) - (n + 1)) (drop (n + 1) (l .bytes)); place = l .place + n + 1 }
+  pub order-spaced : (d : Piece) (o : Option ℕ) → d ≡ after-space l n → o ≡ number-of (d .bytes) → perhaps-numbered l (before-space l n) (after-space l n) o ≡ order-of l
+  order-spaced d o f h = ap (perhaps-numbered l (before-space l n) (after-space l n)) (h ∙ ap (λ (p : Piece). number-of (p .bytes)) f) ∙ has-space
 
-pub order-spaced : (l : Piece) (n : ℕ) → n ≡ before 32 (l .bytes) → (n ≡ length (l .bytes) → ⊥) → (o : Option ℕ) → o ≡ number-of (digits-cut l n .bytes) → perhaps-numbered l (verb-cut l n) (digits-cut l n) o ≡ order-of l
-order-spaced l n e ne o h =
-    let d : take (length (l .bytes) - (n + 1)) (drop (n + 1) (l .bytes)) ≡ drop (n + 1) (l .bytes) = between-to-end (l .bytes) (n + 1) (length (l .bytes)) (omega arith) in
-    let z : n - 0 ≡ n = omega arith in
-    let ne' : before 32 (l .bytes) ≡ length (l .bytes) → ⊥ = λ q. ne (e ∙ q) in
-    rw (h, d, z, e) (sym (cond-false (eqb (before 32 (l .bytes)) (length (l .bytes))) (alone l) (spaced l (before 32 (l .bytes))) (ne-eqb _ _ ne')))
+  pub order-numbered : (r : Order) (v d : Piece) (k : ℕ) → v ≡ before-space l n → d ≡ after-space l n → Some k ≡ number-of (d .bytes) → r ≡ numbered l v d k → r ≡ order-of l
+  order-numbered r v d k f g h q =
+      q ∙ ap (λ (p : Piece). numbered l p d k) f ∙ ap (λ (p : Piece). numbered l (before-space l n) p k) g ∙ order-spaced d (Some k) g h

@@ -18,7 +18,7 @@ use Rattle.std.proofs.shelf.Tests.{eqb-true, eqb-false, ne-eqb, leb-true, le-le
 use Rattle.surveys.specs.declared.calls.Call.{Call}
 use Rattle.surveys.specs.declared.calls.Call.the-variants.{High, Left, At, Run, Tol, Ask}
 use Rattle.commands.specs.Pieces.{Piece}
-use Rattle.commands.specs.Lines.{before}
+use Rattle.commands.specs.Lines.{space, before}
 use Rattle.commands.specs.Orders.{Order, high, left, ask, at, run, tol, unknown, value, is-number, number-of, alone, numbered, perhaps-numbered, before-space, after-space, spaced, order-of, call-of}
 use Rattle.commands.specs.Theorems.{Numbered, Written, Calls-as-written, Numbers-read-back}
 use Rattle.commands.proofs.Lines.{part-at}
@@ -46,19 +46,19 @@ alone-tells l =
 
 -- the first space parts a line
 abbrev parted : List ℕ → ℕ → List ℕ
-parted bs n = take n bs ++ 32 ∷ drop (n + 1) bs
+parted bs n = take n bs ++ space ∷ drop (n + 1) bs
 
 parted-more : (x : ℕ) (xs : List ℕ) (n : ℕ) → x ∷ parted xs n ≡ parted (x ∷ xs) (suc n)
-parted-more x xs n = let k : suc (n + 1) ≡ suc n + 1 = omega arith in ap (λ m. x ∷ (take n xs ++ 32 ∷ drop m (x ∷ xs))) k
+parted-more x xs n = let k : suc (n + 1) ≡ suc n + 1 = omega arith in ap (λ m. x ∷ (take n xs ++ space ∷ drop m (x ∷ xs))) k
 
-at-space : (bs : List ℕ) → (before 32 bs ≡ length bs → ⊥) → bs ≡ parted bs (before 32 bs)
+at-space : (bs : List ℕ) → (before space bs ≡ length bs → ⊥) → bs ≡ parted bs (before space bs)
 at-space [] n = absurd (n refl)
 at-space (x ∷ xs) n =
     ⊎-elim
-    (λ e. ap (λ y. y ∷ xs) (eqb-true x 32 e) ∙ ap (parted (x ∷ xs)) (sym (cond-true (eqb x 32) 0 (suc (before 32 xs)) e)))
-    (λ e. let b : before 32 (x ∷ xs) ≡ suc (before 32 xs) = cond-false (eqb x 32) 0 (suc (before 32 xs)) e in
-    ap (λ ys. x ∷ ys) (at-space xs (λ q. n (b ∙ ap suc q))) ∙ parted-more x xs (before 32 xs) ∙ ap (parted (x ∷ xs)) (sym b))
-    (cases-bool (eqb x 32))
+    (λ e. ap (λ y. y ∷ xs) (eqb-true x space e) ∙ ap (parted (x ∷ xs)) (sym (cond-true (eqb x space) 0 (suc (before space xs)) e)))
+    (λ e. let b : before space (x ∷ xs) ≡ suc (before space xs) = cond-false (eqb x space) 0 (suc (before space xs)) e in
+    ap (λ ys. x ∷ ys) (at-space xs (λ q. n (b ∙ ap suc q))) ∙ parted-more x xs (before space xs) ∙ ap (parted (x ∷ xs)) (sym b))
+    (cases-bool (eqb x space))
 
 abbrev Number : List ℕ → Type 0
 Number ds = (1 ≤ length ds) × (length ds ≤ 5) × (allDigits ds ≡ true)
@@ -72,20 +72,20 @@ number-is ds h =
 is-one : (ds : List ℕ) → Number ds → is-number ds ≡ true
 is-one ds h = and-from (leb 1 (length ds)) (leb (length ds) 5 && allDigits ds) (le-leb _ _ (h .0)) (and-from (leb (length ds) 5) (allDigits ds) (le-leb _ _ (h .1)) (h .2))
 
-written-with : (bs verb vs ds : List ℕ) → bs ≡ vs ++ 32 ∷ ds → Number ds → vs ≡ verb → Numbered verb bs (value ds)
-written-with bs verb vs ds e h v = record { digits = ds; spaced = e ∙ ap (λ xs. xs ++ 32 ∷ ds) v; some = h .0; few = h .1; decimal = h .2; number = refl }
+written-with : (bs verb vs ds : List ℕ) → bs ≡ vs ++ space ∷ ds → Number ds → vs ≡ verb → Numbered verb bs (value ds)
+written-with bs verb vs ds e h v = record { digits = ds; spaced = e ∙ ap (λ xs. xs ++ space ∷ ds) v; some = h .0; few = h .1; decimal = h .2; number = refl }
 
-numbered-tells : (bs : List ℕ) (l v d : Piece) → bs ≡ v .bytes ++ 32 ∷ d .bytes → Number (d .bytes) → Tells bs (numbered l v d (value (d .bytes)))
+numbered-tells : (bs : List ℕ) (l v d : Piece) → bs ≡ v .bytes ++ space ∷ d .bytes → Number (d .bytes) → Tells bs (numbered l v d (value (d .bytes)))
 numbered-tells bs l v d e h =
     let n = value (d .bytes) in
     cond-both (sameBytes (v .bytes) (codes "at")) (at v d n) _ (Tells bs) (λ s. one-call bs (At n) (written-with bs (codes "at") (v .bytes) (d .bytes) e h (is-it _ _ s)))
     (λ _. cond-both (sameBytes (v .bytes) (codes "run")) (run v d n) _ (Tells bs) (λ s. one-call bs (Run n) (written-with bs (codes "run") (v .bytes) (d .bytes) e h (is-it _ _ s)))
     (λ _. cond-both (sameBytes (v .bytes) (codes "tol")) (tol v d n) (unknown l) (Tells bs) (λ s. one-call bs (Tol n) (written-with bs (codes "tol") (v .bytes) (d .bytes) e h (is-it _ _ s))) (λ _. unknown-tells bs l)))
 
-spaced-tells : (l : Piece) → (before 32 (l .bytes) ≡ length (l .bytes) → ⊥) → Tells (l .bytes) (spaced l (before 32 (l .bytes)))
+spaced-tells : (l : Piece) → (before space (l .bytes) ≡ length (l .bytes) → ⊥) → Tells (l .bytes) (spaced l (before space (l .bytes)))
 spaced-tells l ne =
     let bs = l .bytes in
-    let n = before 32 bs in
+    let n = before space bs in
     let d = after-space l n in
     cond-both (is-number (d .bytes)) (Some (value (d .bytes))) None (λ o. Tells bs (perhaps-numbered l (before-space l n) d o))
     (λ e. numbered-tells bs l (before-space l n) d (at-space bs ne) (number-is (d .bytes) e))
@@ -93,7 +93,7 @@ spaced-tells l ne =
 
 tells : (l : Piece) → Tells (l .bytes) (order-of l)
 tells l =
-    cond-both (eqb (before 32 (l .bytes)) (length (l .bytes))) (alone l) (spaced l (before 32 (l .bytes))) (Tells (l .bytes))
+    cond-both (eqb (before space (l .bytes)) (length (l .bytes))) (alone l) (spaced l (before space (l .bytes))) (Tells (l .bytes))
     (λ _. alone-tells l)
     (λ e. spaced-tells l (eqb-false _ _ e))
 
@@ -101,21 +101,21 @@ tells l =
 abbrev call-in : ℕ → List ℕ → Option Call
 call-in p bs = call-of (order-of (part-at bs p))
 
-at-call : (p : ℕ) (ds : List ℕ) → Number ds → call-in p (codes "at" ++ 32 ∷ ds) ≡ Some (At (value ds))
+at-call : (p : ℕ) (ds : List ℕ) → Number ds → call-in p (codes "at" ++ space ∷ ds) ≡ Some (At (value ds))
 at-call p ds h =
-    let e : eqb 2 (length (codes "at" ++ 32 ∷ ds)) ≡ false = ne-eqb 2 (length (codes "at" ++ 32 ∷ ds)) (λ z. omega arith) in
+    let e : eqb 2 (length (codes "at" ++ space ∷ ds)) ≡ false = ne-eqb 2 (length (codes "at" ++ space ∷ ds)) (λ z. omega arith) in
     let m = is-one ds h in
     rw (e, m) refl
 
-run-call : (p : ℕ) (ds : List ℕ) → Number ds → call-in p (codes "run" ++ 32 ∷ ds) ≡ Some (Run (value ds))
+run-call : (p : ℕ) (ds : List ℕ) → Number ds → call-in p (codes "run" ++ space ∷ ds) ≡ Some (Run (value ds))
 run-call p ds h =
-    let e : eqb 3 (length (codes "run" ++ 32 ∷ ds)) ≡ false = ne-eqb 3 (length (codes "run" ++ 32 ∷ ds)) (λ z. omega arith) in
+    let e : eqb 3 (length (codes "run" ++ space ∷ ds)) ≡ false = ne-eqb 3 (length (codes "run" ++ space ∷ ds)) (λ z. omega arith) in
     let m = is-one ds h in
     rw (e, m) refl
 
-tol-call : (p : ℕ) (ds : List ℕ) → Number ds → call-in p (codes "tol" ++ 32 ∷ ds) ≡ Some (Tol (value ds))
+tol-call : (p : ℕ) (ds : List ℕ) → Number ds → call-in p (codes "tol" ++ space ∷ ds) ≡ Some (Tol (value ds))
 tol-call p ds h =
-    let e : eqb 3 (length (codes "tol" ++ 32 ∷ ds)) ≡ false = ne-eqb 3 (length (codes "tol" ++ 32 ∷ ds)) (λ z. omega arith) in
+    let e : eqb 3 (length (codes "tol" ++ space ∷ ds)) ≡ false = ne-eqb 3 (length (codes "tol" ++ space ∷ ds)) (λ z. omega arith) in
     let m = is-one ds h in
     rw (e, m) refl
 

@@ -15,6 +15,10 @@ use Rattle.commands.specs.Pieces.{Piece, piece, end-of, Stands-in}
 abbrev pub line-end : ℕ
 line-end = 0x0a
 
+-- the byte that parts a word from what follows it
+abbrev pub space : ℕ
+space = 0x20
+
 -- bytes cut at each line end: the line up to the first, and the lines after it
 pub record Cut : Type 0 where
   pub first : Piece

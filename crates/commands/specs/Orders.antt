@@ -14,7 +14,7 @@ use Rattle.surveys.specs.declared.calls.Call.the-variants as call
 use Rattle.commands.specs.declared.command.Command.{Command}
 use Rattle.commands.specs.declared.command.Command.the-variants as command
 use Rattle.commands.specs.Pieces.{Piece, piece, Stands-in}
-use Rattle.commands.specs.Lines.{before, lines, lines-from}
+use Rattle.commands.specs.Lines.{space, before, lines, lines-from}
 
 -- a command with the pieces of the input that say it
 pub data Order : Type 0 where
@@ -80,7 +80,7 @@ spaced l n = perhaps-numbered l (before-space l n) (after-space l n) (number-of 
 
 -- a line without a space is one word; else its first space ends the word
 abbrev pub order-of : Piece → Order
-order-of l = cond (eqb (before 32 (l .bytes)) (length (l .bytes))) (alone l) (spaced l (before 32 (l .bytes)))
+order-of l = cond (eqb (before space (l .bytes)) (length (l .bytes))) (alone l) (spaced l (before space (l .bytes)))
 
 -- what the lines of an input say
 abbrev pub orders : List ℕ → List Order

@@ -14,7 +14,7 @@ use Rattle.std.specs.declared.option.Option.the-variants.{Some}
 use Rattle.surveys.specs.declared.calls.Call.{Call}
 use Rattle.surveys.specs.declared.calls.Call.the-variants.{High, Left, At, Run, Tol, Ask}
 use Rattle.commands.specs.Pieces.{Piece, Stands-in}
-use Rattle.commands.specs.Lines.{line-end, all-lines}
+use Rattle.commands.specs.Lines.{line-end, space, all-lines}
 use Rattle.commands.specs.Orders.{value, number-of, order-of, call-of}
 
 -- The lines of an input, the empty ones too.
@@ -32,7 +32,7 @@ Lines-are-the-input = (input : List ℕ) → Are-lines input (all-lines 0 input)
 -- The bytes are the verb, one space and 1 to 5 decimal digits that write n.
 pub record Numbered (verb : List ℕ) (bs : List ℕ) (n : ℕ) : Type 0 where
   pub digits : List ℕ
-  pub spaced : bs ≡ verb ++ 32 ∷ digits
+  pub spaced : bs ≡ verb ++ space ∷ digits
   pub some : 1 ≤ length digits
   pub few : length digits ≤ 5
   pub decimal : allDigits digits ≡ true

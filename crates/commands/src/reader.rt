@@ -2,11 +2,12 @@
 ghost use mathlib.Core.Path.{_≡_};
 ghost use Prim.Native.Nat.{_+_, _<_, _≤_, _^_};
 ghost use lib.ListN.{length};
+ghost use Rattle.std.specs.Orderings.{Decides};
 ghost use Rattle.std.specs.shelf.Text.{sameBytes};
 ghost use Rattle.commands.specs.Pieces.{piece};
-ghost use Rattle.commands.specs.Lines.{before, Next-line};
+ghost use Rattle.commands.specs.Lines.{line-end, space, before, Next-line};
 ghost use Rattle.commands.specs.Theorems.{Lines-are-the-input, Calls-as-written, Numbers-read-back};
-ghost use Rattle.commands.specs.Orders.{order, number-of, alone, numbered, order-of, Next-order};
+ghost use Rattle.commands.specs.Orders.{order, number-of, alone, numbered, before-space, after-space, order-of, Next-order};
 use crate::command::Command;
 use crate::part::Part;
 
@@ -37,11 +38,34 @@ fn until(bytes: &[u8], b: u8) -> usize
     bytes.len()
 }
 
+// How long the line is that begins here.
+fn line_length(bytes: &[u8]) -> usize
+    ensures value { λ r. ⌜ r ≡ before line-end (now (bytes .entry)) ⌝ }
+    ensures within { λ r. ⌜ r ≤ length (now (bytes .entry)) ⌝ }
+{
+    until(bytes, LINE_END)
+}
+
+// How long the first word of a line is.
+fn word_length(line: &[u8]) -> usize
+    ensures value { λ r. ⌜ r ≡ before space (now (line .entry)) ⌝ }
+    ensures within { λ r. ⌜ r ≤ length (now (line .entry)) ⌝ }
+{
+    until(line, SPACE)
+}
+
+// Whether a number may have so many digits.
+fn has_digits(count: usize) -> bool
+    ensures { λ r. ⌜ Decides r ((1 ≤ count) × (count ≤ 5)) ⌝ }
+{
+    1 <= count && count <= DIGITS_MAX
+}
+
 // The number that 1 to 5 decimal digits write.
 fn number(digits: &[u8]) -> Option<u32>
     ensures { λ r. ⌜ r ≡ number-of (now (digits .entry)) ⌝ }
 {
-    if digits.is_empty() || digits.len() > DIGITS_MAX {
+    if !has_digits(digits.len()) {
         return None;
     }
     let mut n: u32 = 0;
@@ -96,26 +120,42 @@ fn read_numbered<'a>(line: Part<'a>, verb: Part<'a>, digits: Part<'a>, number: u
     }
 }
 
+// What stands before the space at `n`.
+fn first_word(line: Part<'_>, n: usize) -> Part<'_>
+    requires { ⌜ n ≤ length (now (line .bytes)) ⌝ }
+    ensures { λ r. ⌜ piece r ≡ before-space (piece (line .entry)) n ⌝ }
+{
+    Part {
+        bytes: &line.bytes[..n],
+        place: line.place,
+    }
+}
+
+// What stands after it.
+fn rest_of(line: Part<'_>, n: usize) -> Part<'_>
+    requires within { ⌜ n < length (now (line .bytes)) ⌝ }
+    requires fits { ⌜ line .place + length (now (line .bytes)) < 2 ^ 64 ⌝ }
+    ensures { λ r. ⌜ piece r ≡ after-space (piece (line .entry)) n ⌝ }
+{
+    Part {
+        bytes: &line.bytes[n + 1..],
+        place: line.place + n + 1,
+    }
+}
+
 // The command of a line.
 pub(crate) fn read_line(line: Part<'_>) -> Command<'_>
     requires { ⌜ line .place + length (now (line .bytes)) < 2 ^ 64 ⌝ }
     ensures { λ r. ⌜ order r ≡ order-of (piece (line .entry)) ⌝ }
 {
-    let n = until(line.bytes, SPACE);
+    let n = word_length(line.bytes);
     if n == line.bytes.len() {
         return read_alone(line);
     }
-    let verb = Part {
-        bytes: &line.bytes[0..n],
-        place: line.place,
-    };
-    let digits = Part {
-        bytes: &line.bytes[n + 1..],
-        place: line.place + n + 1,
-    };
+    let digits = rest_of(line, n);
     match number(digits.bytes) {
         None => Command::Unknown { line },
-        Some(number) => read_numbered(line, verb, digits, number),
+        Some(number) => read_numbered(line, first_word(line, n), digits, number),
     }
 }
 
@@ -131,7 +171,7 @@ pub(crate) fn next_line(input: &[u8], from: usize) -> Option<Part<'_>>
     if start == input.len() {
         return None;
     }
-    let end = start + until(&input[start..], LINE_END);
+    let end = start + line_length(&input[start..]);
     Some(Part {
         bytes: &input[start..end],
         place: start,

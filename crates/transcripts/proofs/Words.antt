@@ -15,7 +15,7 @@ use Rattle.std.specs.shelf.Lists.{All}
 use Rattle.std.specs.declared.option.Option.{Option}
 use Rattle.std.specs.declared.option.Option.the-variants.{Some, None}
 use Rattle.std.proofs.shelf.Tests.{cond-both, ltb-true, ltb-false}
-use Rattle.commands.specs.Lines.{line-end}
+use Rattle.commands.specs.Lines.{line-end, space}
 use Rattle.commands.specs.Orders.{Order, high, left, ask, at, run, tol, unknown, verb-of}
 use Rattle.transcripts.specs.declared.entry.Bounds.{Bounds}
 use Rattle.transcripts.specs.Entries.{dash, bounds-words, words}
@@ -31,7 +31,7 @@ lacks c h (b ∷ w) v zero l e = let m = v .0 in absurd (omega arith)
 lacks c h (b ∷ w) v (suc k) l e = lacks c h w (v .1) k (omega arith) e
 
 word : (w : List ℕ) → 0 < length w → Visible w → Is-word w
-word w s v = record { some = s; no-space = lacks 32 (omega arith) w v; no-end = lacks line-end (omega arith) w v }
+word w s v = record { some = s; no-space = lacks space (omega arith) w v; no-end = lacks line-end (omega arith) w v }
 
 -- a number's digits are visible, and there is one at least
 glyph-visible : (d : ℕ) → 32 < glyph false d

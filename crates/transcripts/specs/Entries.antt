@@ -8,7 +8,7 @@ use Rattle.std.specs.declared.option.Option.{Option}
 use Rattle.std.specs.declared.option.Option.the-variants.{Some, None}
 use Rattle.caps.specs.declared.Outlook.{Outlook}
 use Rattle.surveys.specs.States.{State, standing}
-use Rattle.commands.specs.Lines.{line-end}
+use Rattle.commands.specs.Lines.{line-end, space}
 use Rattle.transcripts.specs.declared.entry.Bounds.{Bounds}
 use Rattle.transcripts.specs.declared.entry.Entry.{Entry}
 
@@ -26,7 +26,7 @@ words verb number touches bounds = verb ∷ decimal number ∷ decimal touches �
 
 -- the words with single spaces
 abbrev pub entry-text : List ℕ → ℕ → ℕ → Option Bounds → List ℕ
-entry-text verb number touches bounds = rejoined 32 (words verb number touches bounds)
+entry-text verb number touches bounds = rejoined space (words verb number touches bounds)
 
 abbrev pub text-of : Entry → List ℕ
 text-of e = entry-text (e .verb .now) (e .number) (e .touches) (e .bounds)

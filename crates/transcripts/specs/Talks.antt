@@ -15,7 +15,7 @@ use Rattle.surveys.specs.declared.calls.Call.{Call}
 use Rattle.surveys.specs.States.{State}
 use Rattle.surveys.specs.Moments.{moment, answers-to}
 use Rattle.surveys.specs.Laws.{Work, Law}
-use Rattle.commands.specs.Lines.{line-end}
+use Rattle.commands.specs.Lines.{line-end, space}
 use Rattle.commands.specs.Orders.{Order, orders, verb-of}
 use Rattle.transcripts.specs.declared.entry.Bounds.{Bounds}
 use Rattle.transcripts.specs.Entries.{words}
@@ -67,7 +67,7 @@ pub record Reads-enough : Type 0 where
 -- A printed line has six words, none of them empty and none with a space or a line end in it.
 pub record Is-word (w : List ℕ) : Type 0 where
   pub some : 0 < length w
-  pub no-space : Lacks 32 w
+  pub no-space : Lacks space w
   pub no-end : Lacks line-end w
 
 pub record Are-six (ws : List (List ℕ)) : Type 0 where

@@ -17,6 +17,6 @@ pub returns : need.returns
 returns c =
     let ne : getD (c .args .input .now) (c .loop-start .start) 0 ≡ line-end → ⊥ =
     elim (c .loop-start-test .came) [ then-loop-start-test·else-input-start-eq-LINE-END w ↦ w .if-input-start-eq-LINE-END .left | else-loop-start-test w ↦ omega arith ] in
-    let next : Is-next (c .args .input .now) (c .loop-start .start) (part-at (take (c .loop-start .start + c .until .result - c .loop-start .start) (drop (c .loop-start .start) (c .args .input .now))) (c .loop-start .start)) =
-    next-cut (c .args .input .now) (c .loop-start .start) (c .until .result) (omega arith) ne (c .until .ensures .value) (c .until .ensures .within) in
+    let next : Is-next (c .args .input .now) (c .loop-start .start) (part-at (take (c .loop-start .start + c .line-length .result - c .loop-start .start) (drop (c .loop-start .start) (c .args .input .now))) (c .loop-start .start)) =
+    next-cut (c .args .input .now) (c .loop-start .start) (c .line-length .result) (omega arith) ne (c .line-length .ensures .value) (c .line-length .ensures .within) in
     record { lines = c .loop-start .inv .2 ∙ next .lines; stands = next .stands; onward = omega arith; within = next .within }

@@ -1,8 +1,8 @@
 use mathlib.Core.Path.{sym, ap, _∙_}
 use Prim.Native.Nat.{_+_, _*_, _≤_}
-use lib.ListN.{length, drop}
+use lib.ListN.{drop}
 use native.Mathlib.Omega.{arith}
-use Rattle.commands.proofs.Numbers.{read-on, digits-stop, digits-next, read-next, pow-next, digits-all, not-empty}
+use Rattle.commands.proofs.Numbers.{read-on, digits-stop, digits-next, read-next, pow-next, digits-all}
 use Rattle.commands.proofs.reader.number.Needs as need
 
 pub returns-then-not-is-ascii-digit : need.returns-then-not-is-ascii-digit
@@ -19,5 +19,5 @@ loop-d-again c =
 
 pub returns : need.returns
 returns c =
-    let some : 1 ≤ length (c .args .digits .now) = not-empty (c .args .digits .now) (sym (c .if-is-empty .ensures tt)) in
-    digits-all (c .args .digits .now) (c .loop-d .d-index) (c .loop-d .n) (c .loop-d-test .left) some (c .if-digits-gt-DIGITS-MAX .left) (c .loop-d .inv .1) (c .loop-d .inv .0)
+    let long = c .has-digits .ensures .0 (c .if-not-has-digits .left) in
+    digits-all (c .args .digits .now) (c .loop-d .d-index) (c .loop-d .n) (c .loop-d-test .left) (long .0) (long .1) (c .loop-d .inv .1) (c .loop-d .inv .0)
