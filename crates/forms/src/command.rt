@@ -39,7 +39,7 @@ fn read_record(rt: &LibcRuntime) -> Result<Vec<u8>, AnyError> {
 // Surveys the sheet, prints the form, and writes the certificate; where there is none, says why.
 pub fn run(rt: &LibcRuntime, tolerance: u32) -> Result<(), AnyError> {
     let record = read_record(rt)?;
-    let Policy { form, certificate } = policy_for(rt.alloc(), &record, tolerance)?;
+    let Policy { form, certificate } = policy_for(rt, &record, tolerance)?;
     rt.stdout().write_all(form.as_bytes())?;
     match certificate {
         Ok(bytes) => {
