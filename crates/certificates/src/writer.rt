@@ -13,6 +13,7 @@ ghost use Rattle.certificates.specs.Layout.{certificate-fields, certificate-wi
 ghost use Rattle.certificates.specs.Theorem.{Certificate-bounds};
 ghost use Rattle.logs.specs.Logs.{state-of};
 ghost use Rattle.certificates.specs.Verdict.{settled-or, with-room, certified, certificate-verdict, certificate-leaves, verdict-on, left-by-survey};
+ghost use Rattle.fields.specs.Bits.{Stored, complement-of};
 ghost use Rattle.certificates.specs.Steps.{Head-written, Touch-written, Touches-written};
 use crate::layout::CEILING_AT;
 use crate::layout::CEILING_WIDTH;
@@ -105,6 +106,14 @@ fn settled_with_room(
     with_room(seen, size(touches.len()), room)
 }
 
+// Writes the ceiling.
+fn put_ceiling(buf: &mut [u8], seen: Outlook)
+    requires { ⌜ 98 ≤ 8 * length (now buf) ⌝ }
+    ensures { λ _. ⌜ Stored (now (buf .entry)) (now (buf .exit)) 81 17 (complement-of 17 (seen .ceiling)) ⌝ }
+{
+    put_signed(buf, CEILING_AT, CEILING_WIDTH, seen.ceiling);
+}
+
 // Writes the fields before the touches.
 fn write_head(buf: &mut [u8], line: Line, tolerance: u16, count: usize, seen: Outlook)
     requires line { ⌜ Within-limits line ⌝ }
@@ -123,7 +132,7 @@ fn write_head(buf: &mut [u8], line: Line, tolerance: u16, count: usize, seen: Ou
         POSITION_WIDTH,
         u32::from(seen.floor.position),
     );
-    put_signed(buf, CEILING_AT, CEILING_WIDTH, seen.ceiling);
+    put_ceiling(buf, seen);
 }
 
 // Writes the touch at its place among the touches.

@@ -2,11 +2,7 @@ use Prim.Native.Nat.{ℕ, _<_}
 use mathlib.Core.Path.{_≡_, sym, subst}
 use mathlib.Core.List.{List}
 use native.Mathlib.Omega.{arith}
-use borrow.Author.Needs.{needs}
-use mir.Val.{SFits}
-use mir.Syntax.{w32}
 use lib.ListN.{length}
-use Rattle.std.proofs.shelf.Signed.{toZ-ofZ}
 use Rattle.fields.specs.Bits.{Stored}
 use Rattle.certificates.proofs.Heads.{Head-fits, head-wrote}
 use Rattle.certificates.proofs.writer.write_head.Needs as need
@@ -16,7 +12,6 @@ as-value a b at w v u e s = subst (Stored a b at w) e s
 
 pub returns : need.returns
 returns c = λ ts e fit.
-    let ceiling : SFits w32 (c .args .seen .ceiling) = search needs in
     let fits : Head-fits (c .args .line) (c .args .tolerance) (length ts) (c .args .seen) = record {
       last = omega (arith, c .pre .line .last-high);
       slope = omega (arith, c .pre .line .slope-high);
@@ -32,4 +27,4 @@ returns c = λ ts e fit.
     (as-value _ _ 44 16 _ _ (c .from-4 .ensures) (c .put-4 .ensures .stored))
     (as-value _ _ 60 9 _ _ (sym e) (c .put-5 .ensures .stored))
     (as-value _ _ 69 12 _ _ (c .from-5 .ensures) (c .put-6 .ensures .stored))
-    (simp toZ-ofZ at (c .put-signed .ensures))
+    (c .put-ceiling .ensures)
