@@ -1,4 +1,6 @@
 // The touches of a line, and what they tell of its heights.
+#![tactic(auto)]
+
 pub mod sound;
 pub mod table;
 

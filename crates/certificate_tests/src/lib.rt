@@ -1,4 +1,5 @@
 // Certificates that are refused, and the shortest and the longest that are written.
+#![tactic(auto)]
 
 #[cfg(test)]
 mod tests {

@@ -1,20 +1,22 @@
 -- The touches of a certificate: their fields fit, and read as they are.
-use Rattle.std.proofs.Common.{◌≡◌, ℕ, zero, suc, ◌+◌, ◌*◌, ◌/◌, ◌<◌, ◌≤◌, List, [], ◌∷◌, ◌++◌, length, get_or, drop, Some, sym, refl, ap, ◌∙◌, subst, arith}
+use Rattle.std.proofs.Common.{◌≡◌, ℕ, zero, suc, ◌+◌, ◌*◌, ◌/◌, ◌<◌, ◌≤◌, List, [], ◌∷◌, ◌++◌, length, get_or, drop, pos, IfSome, Some, None, Option, sym, refl, ap, ◌∙◌, subst, arith}
 use Rattle.std.specs.List.{AllByRecursion as All}
-use Rattle.fields.specs.Bits.{Field, bits_of, width_of, num, Fit, Reads, Wrote, complement_of, packed}
+use Rattle.fields.specs.Bits.{Field, bits_of, width_of, num, Fit, Reads, complement_of, packed}
 use Rattle.fields.proofs.Signs.{complement_lt}
-use Rattle.fields.proofs.Packs.{bits_of_lt, length-packed}
-use Rattle.fields.proofs.Writes.{wrote_all}
+use Rattle.fields.proofs.Packs.{bits_of_lt}
+use Rattle.fields.proofs.Writes.{Wrote, wrote_all}
 use Rattle.caps.specs.declared.Touch.{Touch}
 use Rattle.caps.specs.declared.Line.{Line}
 use Rattle.caps.specs.declared.Outlook.{Outlook}
 use Rattle.caps.specs.Touches.{Sound}
 use Rattle.caps.specs.Outlooks.{outlook, seen}
 use Rattle.caps.proofs.Extremes.{first_has}
-use Rattle.logs.specs.Places.{no_touch}
-use Rattle.certificates.specs.Layout.{touch_fields, certificate_fields, certificate_of, certificate_size}
+use Rattle.certificates.specs.Layout.{touch_fields, certificate_fields, certificate_with, certificate_size}
 use Rattle.certificates.specs.Steps.{SaysTouch, HeadWritten, TouchesWritten}
 use Rattle.certificates.proofs.Heads.{HeadFits, own}
+
+abbrev nowhere : Touch
+nowhere = record { position = 0; height = pos 0 }
 
 pub touches_fit : (ts : List Touch) → All (λ t. t.position ≤ 4000) ts → Fit (touch_fields ts)
 touches_fit [] a = tt
@@ -26,7 +28,7 @@ touches_width (t ∷ ts) = omega (arith, touches_width ts)
 
 -- each touch of fields that read
 read_at : (b : ℕ → ℕ) (a : ℕ) (ts : List Touch) → Reads b a (touch_fields ts) → (k : ℕ) → k < length ts →
-    (num b (a + 28 * k) 12 ≡ (get_or ts k no_touch).position) × (num b (a + 28 * k + 12) 16 ≡ complement_of 16 (get_or ts k no_touch).height)
+    (num b (a + 28 * k) 12 ≡ (get_or ts k nowhere).position) × (num b (a + 28 * k + 12) 16 ≡ complement_of 16 (get_or ts k nowhere).height)
 read_at b a [] r k l = absurd (omega arith)
 read_at b a (t ∷ ts) r zero l =
     let e : a + 28 * 0 ≡ a = omega arith in
@@ -40,13 +42,14 @@ module _ (line : Line) (tolerance : ℕ) (ts : List Touch) (o : Outlook) (fits :
   abbrev fs : List Field
   fs = certificate_fields line tolerance ts o
 
-  says : (k : ℕ) → k < length ts → SaysTouch (bits_of fs) k (get_or ts k no_touch)
+  says : (k : ℕ) → k < length ts → SaysTouch (bits_of fs) k (get_or ts k nowhere)
   says k l =
       let r = read_at (bits_of fs) 98 ts (own line tolerance ts o fits (touches_fit ts low)).1.1.1.1.1.1.1 k l in
       record { position = r.0; height = r.1 }
 
   pub all_written : (a b c : List ℕ) → ((i : ℕ) → get_or c i 0 < 256) → certificate_size (length ts) ≤ length c → HeadWritten line tolerance (length ts) o a b → TouchesWritten (length ts) ts b c
-      → c ≡ packed fs ++ drop (certificate_size (length ts)) a
+      → c ≡ certificate_with line tolerance ts o ++ drop (certificate_size (length ts)) a
+  unfolding certificate_with
   all_written a b c small room head touches =
       let w = touches (bits_of fs) (bits_of_lt fs) says a (head ts refl (touches_fit ts low)) in
       let e : 98 + 28 * length ts ≡ width_of fs = omega (arith, touches_width ts) in
@@ -60,21 +63,9 @@ floor_within line (a ∷ ts) s o e =
     let i : seen line a ts ≡ o = cc in
     subst (λ (x : Outlook). x.floor.position ≤ line.last) i (first_has (λ t. t.height) (λ t. t.position ≤ line.last) a ts s.on_line.within)
 
--- the fields with what the touches tell are the certificate
-pub packed-told : (line : Line) (tolerance : ℕ) (ts : List Touch) (o : Outlook) → outlook line ts ≡ Some o → packed (certificate_fields line tolerance ts o) ≡ certificate_of line tolerance ts
-unfolding certificate_of
-packed-told line tolerance [] o e = let z : ◌≡◌ {A = ℕ} 0 1 = cc in absurd (omega arith)
-packed-told line tolerance (a ∷ ts) o e =
-    let i : o ≡ seen line a ts = cc in
-    ap (λ (x : Outlook). packed (certificate_fields line tolerance (a ∷ ts) x)) i
-
--- a certificate has its size
-pub length_certificate : (line : Line) (tolerance : ℕ) (a : Touch) (ts : List Touch) → length (certificate_of line tolerance (a ∷ ts)) ≡ certificate_size (length (a ∷ ts))
-unfolding certificate_of
-length_certificate line tolerance a ts =
-    let fs : List Field = certificate_fields line tolerance (a ∷ ts) (seen line a ts) in
-    let e : width_of (certificate_fields line tolerance (a ∷ ts) (seen line a ts)) ≡ 98 + 28 * length (a ∷ ts) = omega (arith, touches_width (a ∷ ts)) in
-    length-packed fs ∙ ap (λ n. (n + 7) / 8) e
+pub told_within : (line : Line) (ts : List Touch) → Sound line ts → (r : Option Outlook) → r ≡ outlook line ts → IfSome r (λ o. o.floor.position ≤ line.last)
+told_within line ts s None e = tt
+told_within line ts s (Some o) e = floor_within line ts s o (sym e)
 
 pub all_low : (last : ℕ) (ts : List Touch) → last ≤ 4000 → All (λ t. t.position ≤ last) ts → All (λ t. t.position ≤ 4000) ts
 all_low last [] l a = tt

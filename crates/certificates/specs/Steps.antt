@@ -1,10 +1,10 @@
 -- What the writer has written so far.
-use Rattle.std.specs.Prelude.{◌≡◌, ℕ, ◌+◌, ◌*◌, ◌<◌, List, length, slice_index_or}
-use Rattle.fields.specs.Bits.{bits_of, num, Fit, Wrote, complement_of}
+use Rattle.std.specs.Prelude.{◌≡◌, ℕ, ◌+◌, ◌*◌, ◌<◌, List, length, pos, slice_index_or}
+use Rattle.fields.specs.Bits.{bits_of, num, Fit, complement_of}
+use Rattle.fields.proofs.Writes.{Wrote}
 use Rattle.caps.specs.declared.Touch.{Touch}
 use Rattle.caps.specs.declared.Line.{Line}
 use Rattle.caps.specs.declared.Outlook.{Outlook}
-use Rattle.logs.specs.Places.{no_touch}
 use Rattle.certificates.specs.Layout.{touch_fields, certificate_fields}
 
 -- the 98 bits before the touches are those of the certificate, whatever the touches are
@@ -23,5 +23,5 @@ TouchWritten place t mid new = (f : ℕ → ℕ) → ((i : ℕ) → f i < 2) →
 -- the first n touches are written after the head
 abbrev pub TouchesWritten : ℕ → List Touch → List ℕ → List ℕ → Type 0
 TouchesWritten n ts mid new =
-    (f : ℕ → ℕ) → ((i : ℕ) → f i < 2) → ((k : ℕ) → k < length ts → SaysTouch f k (slice_index_or ts k no_touch)) →
+    (f : ℕ → ℕ) → ((i : ℕ) → f i < 2) → ((k : ℕ) → k < length ts → SaysTouch f k (slice_index_or ts k (record { position = 0; height = pos 0 }))) →
     (old : List ℕ) → Wrote f 98 old mid → Wrote f (98 + 28 * n) old new

@@ -7,7 +7,7 @@ use Rattle.caps.specs.declared.Line.{Line}
 use Rattle.caps.specs.declared.Outlook.{Outlook}
 use Rattle.caps.specs.Outlooks.{outlook, settled_by}
 use Rattle.surveys.specs.States.{State}
-use Rattle.certificates.specs.Layout.{certificate_of, certificate_size}
+use Rattle.certificates.specs.Layout.{certificate_with, certificate_size}
 
 -- what the touches of a settled survey tell: else 19, nothing is touched, or 20, it is not settled
 abbrev pub settled_or : ℕ → Option Outlook → Result Outlook Refusal
@@ -31,12 +31,12 @@ abbrev pub certificate_verdict : Line → ℕ → List Touch → ℕ → Result 
 certificate_verdict line tolerance ts room = written (certificate_size (length ts)) (certified line tolerance ts room)
 
 -- the certificate at the front, all bytes after it as they were; on a refusal the whole buffer as it was
-abbrev pub left_by : List ℕ → List ℕ → Result ℕ Refusal → List ℕ
-left_by certificate old (Ok size) = certificate ++ drop size old
-left_by certificate old (Err e) = old
+abbrev pub left_by : Line → ℕ → List Touch → List ℕ → Result Outlook Refusal → List ℕ
+left_by line tolerance ts old (Ok o) = certificate_with line tolerance ts o ++ drop (certificate_size (length ts)) old
+left_by line tolerance ts old (Err e) = old
 
 abbrev pub certificate_leaves : Line → ℕ → List Touch → List ℕ → List ℕ
-certificate_leaves line tolerance ts old = left_by (certificate_of line tolerance ts) old (certificate_verdict line tolerance ts (length old))
+certificate_leaves line tolerance ts old = left_by line tolerance ts old (certified line tolerance ts (length old))
 
 -- The same of a survey: its line, its tolerance and its touches are all that counts.
 abbrev pub verdict_on : State → ℕ → Result ℕ Refusal

@@ -1,12 +1,11 @@
-ghost use Rattle.std.specs.Prelude.{◌≡◌, ℕ, ◌+◌, ◌*◌, ◌/◌, ◌<◌, ◌≤◌, ◌++◌, length, get_or, drop, IfOk, Some, Ok, OnOk, slice_index_or};
+ghost use Rattle.std.specs.Prelude.{◌≡◌, ℕ, ◌+◌, ◌*◌, ◌/◌, ◌<◌, ◌≤◌, ◌++◌, length, drop, IfSome, IfOk, Ok, OnOk};
 ghost use Rattle.std.specs.List.{AllByRecursion as All};
 ghost use Rattle.terms.specs.Limits.{last_max};
 ghost use Rattle.caps.specs.Touches.{Sound, WithinLimits};
 ghost use Rattle.caps.specs.Outlooks.{outlook};
-ghost use Rattle.certificates.specs.Layout.{certificate_of, certificate_size};
+ghost use Rattle.certificates.specs.Layout.{certificate_fields, certificate_with, certificate_size};
 ghost use Rattle.certificates.specs.Theorem.{CertificateBounds};
 ghost use Rattle.logs.specs.Logs.{state_of};
-ghost use Rattle.logs.specs.Places.{no_touch};
 ghost use Rattle.certificates.specs.Verdict.{settled_or, with_room, certified, certificate_verdict, certificate_leaves, verdict_on, left_by_survey};
 ghost use Rattle.fields.specs.Bits.{Stored, complement_of};
 ghost use Rattle.certificates.specs.Steps.{HeadWritten, TouchWritten, TouchesWritten};
@@ -30,10 +29,11 @@ fn size(count: usize) -> usize
     (TOUCHES_AT + TOUCH_WIDTH * count + 7) / 8
 }
 
-// What the touches tell.
+// What the touches tell; their floor lies on the line.
 fn told(line: Line, touches: &[Touch]) -> Option<Outlook>
     requires { Sound line touches.now }
     ensures is { result ≡ outlook line touches.now }
+    ensures within { IfSome result (λ o. o.floor.position ≤ line.last) }
     ensures bounds { CertificateBounds }
 {
     look(line, touches)
@@ -43,7 +43,7 @@ fn told(line: Line, touches: &[Touch]) -> Option<Outlook>
 fn settle(line: Line, tolerance: u16, touches: &[Touch]) -> Result<Outlook, Refusal>
     requires { Sound line touches.now }
     ensures is { result ≡ settled_or tolerance (outlook line touches.now) }
-    ensures tells { IfOk result (λ o. outlook line touches.now ≡ Some o) }
+    ensures within { IfOk result (λ o. o.floor.position ≤ line.last) }
     ensures bounds { CertificateBounds }
 {
     let Some(seen) = told(line, touches) else {
@@ -78,7 +78,7 @@ fn settled_with_room(
 ) -> Result<Outlook, Refusal>
     requires { Sound line touches.now }
     ensures is { result ≡ certified line tolerance touches.now room }
-    ensures tells { IfOk result (λ o. outlook line touches.now ≡ Some o) }
+    ensures within { IfOk result (λ o. o.floor.position ≤ line.last) }
     ensures enough { OnOk result (certificate_size (length touches.now) ≤ room) }
     ensures bounds { CertificateBounds }
 {
@@ -115,21 +115,13 @@ fn write_head(buf: &mut [u8], line: Line, tolerance: u16, count: usize, seen: Ou
     put_ceiling(buf, seen);
 }
 
-// The bit that the touch of that place begins with.
-fn first_bit(place: usize) -> usize
-    requires { place < 256 }
-    ensures { result ≡ 98 + 28 * place }
-{
-    TOUCHES_AT + TOUCH_WIDTH * place
-}
-
 // Writes the touch at its place among the touches.
 fn write_touch(buf: &mut [u8], place: usize, touch: Touch)
     requires fits { (touch.position ≤ last_max) × (place < 256) }
     requires room { 98 + 28 * (place + 1) ≤ 8 * length buf.old }
     ensures { TouchWritten place touch buf.old buf.new }
 {
-    let at = first_bit(place);
+    let at = TOUCHES_AT + TOUCH_WIDTH * place;
     put(buf, at, POSITION_WIDTH, u32::from(touch.position));
     put_signed(
         buf,
@@ -139,32 +131,22 @@ fn write_touch(buf: &mut [u8], place: usize, touch: Touch)
     );
 }
 
-// Writes the touch that has that place in rising order.
-fn write_nth(buf: &mut [u8], touches: &[Touch], place: usize)
-    requires within { (place < length touches.now) × (length touches.now ≤ 256) }
-    requires fits { (get_or touches.now place no_touch).position ≤ last_max }
-    requires room { 98 + 28 * (place + 1) ≤ 8 * length buf.old }
-    ensures { TouchWritten place (slice_index_or touches.now place no_touch) buf.old buf.new }
-{
-    write_touch(buf, place, touches[place]);
-}
-
 // Writes the touches after the head.
 fn write_touches(buf: &mut [u8], touches: &[Touch])
     requires fits { (All (λ t. t.position ≤ last_max) touches.now) × (length touches.now ≤ 256) }
     requires room { 98 + 28 * length touches.now ≤ 8 * length buf.old }
     ensures { TouchesWritten (length touches.now) touches.now buf.old buf.new }
 {
-    for place in 0..touches.len() {
-        write_nth(buf, touches, place);
+    for (place, touch) in touches.iter().enumerate() {
+        write_touch(buf, place, *touch);
     }
 }
 
 // Writes the certificate to the front of a buffer that has room for it.
 fn write_fields(buf: &mut [u8], line: Line, tolerance: u16, touches: &[Touch], seen: Outlook)
-    requires sound { (Sound line touches.now) × (outlook line touches.now ≡ Some seen) }
+    requires sound { (Sound line touches.now) × (seen.floor.position ≤ line.last) }
     requires room { certificate_size (length touches.now) ≤ length buf.old }
-    ensures { buf.new ≡ certificate_of line tolerance touches.now ++ drop (certificate_size (length touches.now)) buf.old }
+    ensures { buf.new ≡ certificate_with line tolerance touches.now seen ++ drop (certificate_size (length touches.now)) buf.old }
 {
     write_head(buf, line, tolerance, touches.len(), seen);
     write_touches(buf, touches);

@@ -1,9 +1,8 @@
 // Surveys the sheet of `sheet.rec`, prints the insurer's form and writes `sheet.cert`.
-use crate::command::{read_tolerance, run};
-use std::env;
+#![tactic(auto)]
 
-mod command;
-mod console;
+use forms::command::{read_tolerance, run};
+use std::env;
 
 // Reads the tolerance and does the work.
 fn work(rt: &HostRuntime) -> anyhow::Result<()> {

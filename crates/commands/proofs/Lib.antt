@@ -1,4 +1,5 @@
 pub mod Cuts
+pub mod Numbers
 pub mod Reading
 pub mod Lines
 pub mod Parts

@@ -5,10 +5,9 @@ use Rattle.std.proofs.lemmas.List.{drop-drop, length-take-le, take-take, take_al
 use Rattle.std.proofs.lemmas.Slice.{between_is}
 use Rattle.std.proofs.lemmas.Bool.{cond_both, cases_lt}
 use Rattle.commands.specs.declared.command.Command.{Command}
-use Rattle.texts.specs.Numbers.{number_of}
 use Rattle.commands.specs.Pieces.{Piece, end_of, StandsIn}
 use Rattle.commands.specs.Lines.{space, before, lines_from, IsNext}
-use Rattle.commands.specs.Orders.{Order, high, left, ask, at, run, tol, unknown, WordsStand, alone, numbered, perhaps_numbered, before_space, after_space, spaced, order_of, orders_from, IsNextOrder, NextOrder}
+use Rattle.commands.specs.Orders.{Order, high, left, ask, at, run, tol, unknown, WordsStand, alone, numbered, perhaps_numbered, before_space, after_space, spaced, number_of, order_of, orders_from, IsNextOrder, NextOrder}
 use Rattle.commands.proofs.Lines.{part_at}
 
 alone_stands : (input : List ℕ) (l : Piece) → StandsIn input l → WordsStand input (alone l)

@@ -1,10 +1,9 @@
 -- A line as the code takes it apart.
 use Rattle.std.proofs.Common.{◌≡◌, ℕ, eqb, length, Some, None, Option, sym, ap, ◌∙◌}
 use Rattle.std.proofs.lemmas.Bool.{ne_eqb, cond-false}
-use Rattle.texts.specs.Numbers.{number_of}
 use Rattle.commands.specs.Pieces.{Piece}
 use Rattle.commands.specs.Lines.{space, before}
-use Rattle.commands.specs.Orders.{Order, alone, numbered, perhaps_numbered, before_space, after_space, spaced, order_of}
+use Rattle.commands.specs.Orders.{Order, alone, numbered, perhaps_numbered, before_space, after_space, spaced, order_of, number_of}
 
 -- the line has a space, at n
 module _ (l : Piece) (n : ℕ) (e : n ≡ before space l.bytes) (ne : n ≡ length l.bytes → ⊥) where

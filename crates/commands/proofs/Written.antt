@@ -6,13 +6,12 @@ use Rattle.std.proofs.lemmas.Slice.Eq.{bytes_eq-Decides}
 use Rattle.std.proofs.lemmas.Bool.{eqb-true, eqb-false, ne_eqb, leb-true, le-leb, and_parts, and_from, cases_Bool, cond_both, cond-true, cond-false}
 use Rattle.surveys.specs.declared.calls.Call.{Call}
 use Rattle.surveys.specs.declared.calls.Call.TheVariants.{High, Left, At, Run, Tol, Ask}
-use Rattle.texts.specs.Numbers.{value, is_number, number_of}
 use Rattle.commands.specs.Pieces.{Piece}
 use Rattle.commands.specs.Lines.{space, before}
-use Rattle.commands.specs.Orders.{Order, high, left, ask, at, run, tol, unknown, alone, numbered, perhaps_numbered, before_space, after_space, spaced, order_of, call_of}
+use Rattle.commands.specs.Orders.{Order, high, left, ask, at, run, tol, unknown, value, is_number, number_of, alone, numbered, perhaps_numbered, before_space, after_space, spaced, order_of, call_of}
 use Rattle.commands.specs.Theorems.{Numbered, Written, CallsAsWritten, NumbersReadBack}
 use Rattle.commands.proofs.Lines.{part_at}
-use Rattle.texts.proofs.Digits.{by_weight}
+use Rattle.commands.proofs.Numbers.{by_weight}
 
 is_it : (bs ds : List ℕ) → bytes_eq bs ds ≡ true → bs ≡ ds
 is_it bs ds h = (bytes_eq-Decides bs ds).0 h

@@ -5,10 +5,9 @@ use Rattle.std.specs.Str.Iter.{LacksByte}
 use Rattle.std.specs.Str.{all_ascii_digits}
 use Rattle.surveys.specs.declared.calls.Call.{Call}
 use Rattle.surveys.specs.declared.calls.Call.TheVariants.{High, Left, At, Run, Tol, Ask}
-use Rattle.texts.specs.Numbers.{value, number_of}
 use Rattle.commands.specs.Pieces.{Piece, StandsIn}
 use Rattle.commands.specs.Lines.{line_end, space, all_lines}
-use Rattle.commands.specs.Orders.{order_of, call_of}
+use Rattle.commands.specs.Orders.{value, number_of, order_of, call_of}
 
 -- The lines of an input, the empty ones too.
 pub record AreLines (input : List ℕ) (ls : List Piece) : Type 0 where

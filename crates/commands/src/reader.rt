@@ -1,18 +1,20 @@
 // Reads a line where it lies.
-ghost use Rattle.std.specs.Prelude.{◌≡◌, ◌+◌, ◌^◌, ◌<◌, ◌≤◌, length};
+ghost use Rattle.std.specs.Prelude.{◌≡◌, ◌+◌, ◌^◌, ◌<◌, ◌≤◌, length, Decides};
 ghost use Rattle.std.specs.Str.{bytes_eq};
 ghost use Rattle.commands.specs.Pieces.{piece};
 ghost use Rattle.commands.specs.Lines.{line_end, space, before, NextLine};
 ghost use Rattle.commands.specs.Theorems.{LinesAreTheInput, CallsAsWritten, NumbersReadBack};
-ghost use Rattle.commands.specs.Orders.{order, alone, numbered, before_space, after_space, order_of, NextOrder};
+ghost use Rattle.commands.specs.Orders.{order, number_of, alone, numbered, before_space, after_space, order_of, NextOrder};
 
 use crate::command::Command;
 use crate::part::Part;
-use texts::number::number;
 
 const LINE_END: u8 = b'\n';
 
 const SPACE: u8 = b' ';
+
+// The most digits that a number has.
+const DIGITS_MAX: usize = 5;
 
 // Whether a word of the input is that fixed one.
 fn is_same(word: &[u8], fixed: &[u8]) -> bool
@@ -48,6 +50,30 @@ fn word_length(line: &[u8]) -> usize
     ensures within { result ≤ length line.now }
 {
     until(line, SPACE)
+}
+
+// Whether a number may have so many digits.
+fn has_digits(count: usize) -> bool
+    ensures { Decides result ((1 ≤ count) × (count ≤ 5)) }
+{
+    1 <= count && count <= DIGITS_MAX
+}
+
+// The number that 1 to 5 decimal digits write.
+fn number(digits: &[u8]) -> Option<u32>
+    ensures { result ≡ number_of digits.now }
+{
+    if !has_digits(digits.len()) {
+        return None;
+    }
+    let mut n: u32 = 0;
+    for d in digits {
+        if !d.is_ascii_digit() {
+            return None;
+        }
+        n = 10 * n + u32::from(*d - b'0');
+    }
+    Some(n)
 }
 
 // The command of a line that is one word.

@@ -1,163 +1,139 @@
-// The proved crates against the naive second text of the same rules, on drawn cases.
-mod case;
-mod ends;
-mod examples;
-mod figures;
-mod kinds;
-mod looks;
-mod papers;
-mod talks;
-mod trials;
-mod views;
+// The pass over the touches against the naive way over all positions and all touches, on tables drawn by chance.
+#![tactic(auto)]
 
-use anyhow::anyhow;
-use case::{Case, Met};
-use draws::chance::Chance;
-use examples::Example;
-use figures::draw_figures;
-use kinds::{KINDS, Kind, What};
-use looks::draw_look;
-use papers::{draw_paper, draw_writing};
-use std::fmt::Debug;
-use talks::draw_talk;
-use trials::{draw_run, draw_trial};
+mod chance;
+mod compare;
+mod naive;
+mod tables;
 
-// How the cases of a run went so far.
-#[derive(Drop)]
-struct Tally {
-    // Whether a case that disagrees was told.
-    told: bool,
-    // How many cases of the kind at hand agree.
-    agreed: u32,
-    // The numbers that the cases of all kinds met.
-    met: Met,
-}
+use caps::sound::PLACES;
+use caps::{Line, Touch};
+use chance::Chance;
+use compare::do_agree;
+use tables::{Kind, draw_free, draw_lawful, touch_some};
+use terms::limits::{LAST_MAX, SLACK_MAX, SLOPE_MAX};
 
-// Asks both texts; the first case that disagrees is printed with its input.
-fn judge<C: Case + Debug>(
+const LAST: u16 = LAST_MAX as u16;
+
+const SLOPE: u16 = SLOPE_MAX as u16;
+
+const SLACK: u16 = SLACK_MAX as u16;
+
+// A height for each position of the longest bed.
+const SHEET: usize = LAST_MAX as usize + 1;
+
+const KINDS: [Kind; 6] = [
+    Kind {
+        name: "short beds",
+        tables: 2_000,
+        last: (1, 30),
+        slope: (1, 9),
+        slack: (0, 9),
+        draws: (0, 12),
+        lawful: true,
+    },
+    Kind {
+        name: "full beds",
+        tables: 500,
+        last: (1, 8),
+        slope: (1, 4),
+        slack: (0, 4),
+        draws: (30, 60),
+        lawful: true,
+    },
+    Kind {
+        name: "long slopes",
+        tables: 500,
+        last: (100, 400),
+        slope: (1, 300),
+        slack: (0, SLACK),
+        draws: (1, 40),
+        lawful: true,
+    },
+    Kind {
+        name: "unlawful heights",
+        tables: 1_000,
+        last: (1, 60),
+        slope: (1, 2_000),
+        slack: (0, 2_000),
+        draws: (1, 20),
+        lawful: false,
+    },
+    Kind {
+        name: "steepest lines",
+        tables: 200,
+        last: (3_990, LAST),
+        slope: (39_990, SLOPE),
+        slack: (39_990, SLACK),
+        draws: (1, 6),
+        lawful: false,
+    },
+    Kind {
+        name: "largest tables",
+        tables: 12,
+        last: (LAST, LAST),
+        slope: (1, 60),
+        slack: (0, 60),
+        draws: (300, 600),
+        lawful: true,
+    },
+];
+
+// Draws one table and says whether the two ways agree on it. The first that does not is printed with its input.
+fn check_one(
     rt: &HostRuntime,
-    tally: &mut Tally,
     kind: &Kind,
-    number: u32,
-    case: &C,
-) -> anyhow::Result<()> {
-    if case.agrees(rt.alloc(), &mut tally.met)? {
-        tally.agreed = tally.agreed.saturating_add(1);
-    } else if !tally.told {
-        tally.told = true;
-        let name = kind.name;
-        println!(rt; "first that disagrees: {name}, case {number}: {case:?}")?;
-    }
-    Ok(())
-}
-
-// Draws one case of a kind and judges it.
-fn check_case(
-    rt: &HostRuntime,
-    tally: &mut Tally,
-    kind: &Kind,
-    number: u32,
     chance: &mut Chance,
-) -> anyhow::Result<()> {
-    let heap = rt.alloc();
-    let last = chance.between(kind.last.0, kind.last.1);
-    match kind.what {
-        What::Examples => judge(rt, tally, kind, number, &Example { number }),
-        What::Looks { shape, one_in } => {
-            let case = draw_look(heap, chance, shape, last, one_in)?;
-            judge(rt, tally, kind, number, &case)
-        }
-        What::Calls {
-            shape,
-            stack,
-            calls,
-        } => {
-            let case = draw_trial(heap, chance, shape, last, stack, calls)?;
-            judge(rt, tally, kind, number, &case)
-        }
-        What::Runs {
-            shape,
-            stack,
-            exact,
-        } => {
-            let case = draw_run(heap, chance, shape, last, stack, exact)?;
-            judge(rt, tally, kind, number, &case)
-        }
-        What::Figures { shape } => {
-            let case = draw_figures(heap, chance, shape, last)?;
-            judge(rt, tally, kind, number, &case)
-        }
-        _ => check_paper(rt, tally, kind, number, chance, last),
+    told: &mut bool,
+) -> anyhow::Result<bool> {
+    let line = kind.line(chance);
+    let mut sheet = [0; SHEET];
+    if kind.lawful {
+        draw_lawful(chance, line, &mut sheet);
+    } else {
+        draw_free(chance, &mut sheet);
     }
+    let mut table = [Touch {
+        position: 0,
+        height: 0,
+    }; PLACES];
+    let places = &mut table[..];
+    let draws = chance.between(kind.draws.0, kind.draws.1);
+    let count = touch_some(chance, line, &sheet, draws, places);
+    let touches = &places[0..count];
+    let tolerance = chance.between(0, 300);
+    let agree = do_agree(line, touches, tolerance);
+    if !agree && !*told {
+        *told = true;
+        println!(rt; "first that disagrees: {line:?}, tolerance {tolerance}, {touches:?}")?;
+    }
+    Ok(agree)
 }
 
-// The same for the kinds that are about records and texts.
-fn check_paper(
+// How many tables of a kind agree.
+fn check_kind(
     rt: &HostRuntime,
-    tally: &mut Tally,
     kind: &Kind,
-    number: u32,
     chance: &mut Chance,
-    last: u16,
-) -> anyhow::Result<()> {
-    let heap = rt.alloc();
-    match kind.what {
-        What::Papers { shape, damage } => {
-            let case = draw_paper(heap, chance, shape, last, damage)?;
-            judge(rt, tally, kind, number, &case)
+    told: &mut bool,
+) -> anyhow::Result<u32> {
+    let mut agreed = 0;
+    for _ in 0..kind.tables {
+        if check_one(rt, kind, chance, told)? {
+            agreed += 1;
         }
-        What::Writings { shape } => {
-            let case = draw_writing(heap, chance, shape, last)?;
-            judge(rt, tally, kind, number, &case)
-        }
-        What::Talks {
-            shape,
-            damage,
-            length,
-        } => {
-            let case = draw_talk(heap, chance, shape, last, damage, length)?;
-            judge(rt, tally, kind, number, &case)
-        }
-        _ => Ok(()),
     }
+    Ok(agreed)
 }
 
-// Checks all cases of a kind, which have a chance of their own, and prints how many agree.
-fn check_kind(rt: &HostRuntime, tally: &mut Tally, kind: &Kind, seed: u64) -> anyhow::Result<()> {
-    let mut chance = Chance::new(seed);
-    tally.agreed = 0;
-    for number in 0..kind.cases {
-        check_case(rt, tally, kind, number, &mut chance)?;
-    }
-    let name = kind.name;
-    let agreed = tally.agreed;
-    let cases = kind.cases;
-    println!(rt; "{name}: {agreed} of {cases} agree")?;
-    Ok(())
-}
-
-// Prints how often each number of a call, a record or a certificate was answered.
-fn print_met(rt: &HostRuntime, met: &Met) -> anyhow::Result<()> {
-    for number in 0..22 {
-        let count = met.count(number);
-        println!(rt; "answered {number}: {count}")?;
-    }
-    Ok(())
-}
-
-// Checks every kind.
 fn run(rt: &HostRuntime) -> anyhow::Result<()> {
-    let mut tally = Tally {
-        told: false,
-        agreed: 0,
-        met: Met::none(),
-    };
-    for (place, kind) in KINDS.iter().enumerate() {
-        check_kind(rt, &mut tally, kind, place as u64)?;
-    }
-    print_met(rt, &tally.met)?;
-    if tally.told {
-        return Err(anyhow!("some cases disagree"));
+    let mut chance = Chance::new(1);
+    let mut told = false;
+    for kind in &KINDS {
+        let agreed = check_kind(rt, kind, &mut chance, &mut told)?;
+        let name = kind.name;
+        let tables = kind.tables;
+        println!(rt; "{name}: {agreed} of {tables} tables agree")?;
     }
     Ok(())
 }

@@ -1,4 +1,6 @@
 // Cases that look drawn by chance, and are the same in every run.
+#![tactic(auto)]
+
 pub mod calls;
 pub mod chance;
 pub mod damage;

@@ -67,30 +67,20 @@ fn kept_within(from: u16, to: u16, x: u32) -> u16
     u32::from(from).max(u32::from(to).min(x)) as u16
 }
 
-// Of the two whole neighbours of the crossing, kept within from .. to, the one where the roof is higher, the lower on a tie; and the roof there.
-fn crest(slope: u16, left: i32, right: i32, from: u16, to: u16) -> Summit
+// Of the two whole neighbours of the crossing, kept within from .. to, the one where the roof is higher, the lower on a tie.
+fn crest(slope: u16, left: i32, right: i32, from: u16, to: u16) -> u16
     requires slope { (1 ≤ slope) × (slope ≤ slope_max) }
     requires ends { (from ≤ to) × (to ≤ last_max) }
     requires lines { (unsigned_abs left ≤ line_max) × (unsigned_abs right ≤ line_max) }
-    ensures place { result.place ≡ beside (roof slope left right) from to (crossing slope left right) }
-    ensures cap { result.cap ≡ roof slope left right result.place }
-    ensures small { unsigned_abs result.cap ≤ 2 * line_max }
+    ensures { result ≡ beside (roof slope left right) from to (crossing slope left right) }
 {
     let c = crossing_of(slope, left, right);
     let low = kept_within(from, to, c);
     let next = kept_within(from, to, c + 1);
-    let at_low = roof_at(slope, left, right, low);
-    let at_next = roof_at(slope, left, right, next);
-    if at_low < at_next {
-        Summit {
-            cap: at_next,
-            place: next,
-        }
+    if roof_at(slope, left, right, low) < roof_at(slope, left, right, next) {
+        next
     } else {
-        Summit {
-            cap: at_low,
-            place: low,
-        }
+        low
     }
 }
 
@@ -102,10 +92,10 @@ pub(crate) fn between(line: Line, left: i32, right: i32, from: u16, to: u16) -> 
     ensures place { Peak (roof line.slope left right) from to result.place }
     ensures cap { result.cap ≡ roof line.slope left right result.place +ℤ pos line.slack }
 {
-    let roof = crest(line.slope, left, right, from, to);
+    let place = crest(line.slope, left, right, from, to);
     Summit {
-        cap: roof.cap + i32::from(line.slack),
-        place: roof.place,
+        cap: roof_at(line.slope, left, right, place) + i32::from(line.slack),
+        place,
     }
 }
 

@@ -1,4 +1,6 @@
 // The library for callers that are not Rattle: numbers and byte slices, a refusal as its number, values through `&mut`.
+#![tactic(auto)]
+
 ghost use Rattle.std.specs.Prelude.{◌≡◌, true, length, is_ok};
 ghost use Rattle.records.specs.Verdict.{record_verdict};
 ghost use Rattle.logs.specs.Logs.{state_of};

@@ -1,4 +1,6 @@
 // The transcript for callers that are not Rattle.
+#![tactic(auto)]
+
 ghost use Rattle.std.specs.Prelude.{◌≡◌, ◌≤◌, ◌++◌, length, drop};
 ghost use Rattle.transcripts.specs.Transcripts.{printed};
 ghost use Rattle.exports_text.specs.Texts.{room_number, handed, handed_length, HandedOut};

@@ -97,12 +97,12 @@ num_inside f h a o w r =
     (mod_low (num f a o) w (num f (a + o) w) (num_lt f h (a + o) w))
 
 -- one byte more
-pub field_byte_more : (bs : List ℕ) (s n : ℕ) → get_or bs (s + n) 0 < 256 → field_of bs (8 * s) (8 * (n + 1)) ≡ field_of bs (8 * s) (8 * n) * 256 + get_or bs (s + n) 0
+pub field_byte_more : (bs : List ℕ) (s i : ℕ) → s ≤ i → get_or bs i 0 < 256 → field_of bs (8 * s) (8 * (i + 1 - s)) ≡ field_of bs (8 * s) (8 * (i - s)) * 256 + get_or bs i 0
 unfolding field_of
-field_byte_more bs s n small =
-    let e : 8 * (n + 1) ≡ 8 * n + 8 = omega arith in
-    let g : 8 * s + 8 * n ≡ 8 * (s + n) = omega arith in
-    rw (e, num_split (bit bs) (8 * s) (8 * n) 8, g, num_byte bs (s + n) small)
+field_byte_more bs s i l small =
+    let e : 8 * (i + 1 - s) ≡ 8 * (i - s) + 8 = omega arith in
+    let g : 8 * s + 8 * (i - s) ≡ 8 * i = omega arith in
+    rw (e, num_split (bit bs) (8 * s) (8 * (i - s)) 8, g, num_byte bs i small)
 
 pub field_inside : (bs : List ℕ) (a b o w r n : ℕ) → a + o ≡ b → n ≡ o + w + r → field_of bs a n / 2 ^ r % 2 ^ w ≡ field_of bs b w
 unfolding field_of

@@ -1,8 +1,6 @@
 -- Two's complement, over any width.
-use Rattle.std.proofs.Common.{◌≡◌, ℕ, zero, suc, ◌+◌, ◌-◌, ◌*◌, ◌/◌, ◌%◌, ◌^◌, ◌<◌, ◌≤◌, Bool, true, false, cond, ltb, ◌⊎◌, ℤ, pos, negsuc, ◌-ℤ◌, nat_abs, sym, refl, ap, ◌∙◌, subst, inl, inr, ⊎_elim, mod-eq_of_lt, arith}
-use native.Mathlib.Nat.{add-mod_right}
+use Rattle.std.proofs.Common.{◌≡◌, ℕ, zero, suc, ◌+◌, ◌-◌, ◌*◌, ◌/◌, ◌%◌, ◌^◌, ◌<◌, ◌≤◌, Bool, true, false, cond, ltb, ◌⊎◌, ℤ, pos, negsuc, nat_abs, sym, refl, ap, ◌∙◌, subst, inl, inr, ⊎_elim, mod-eq_of_lt, arith}
 use Rattle.std.proofs.lemmas.Nat.{pow_pos, mod_below}
-use Rattle.std.proofs.lemmas.Int.{ints}
 use Rattle.std.proofs.lemmas.Bool.{lt-ltb, le-ltb, cases_lt}
 use Rattle.fields.specs.Bits.{signed_of, complement_of, FitsSigned}
 use Rattle.fields.proofs.Laws.{pow_more}
@@ -11,7 +9,7 @@ pub complement_lt : (w : ℕ) (z : ℤ) → complement_of w z < 2 ^ w
 complement_lt w (pos a) = mod_below a (2 ^ w) (pow_pos w)
 complement_lt w (negsuc a) = omega (arith, pow_pos w)
 
-pub half : (w : ℕ) → 0 < w → 2 ^ w ≡ 2 * 2 ^ (w - 1)
+half : (w : ℕ) → 0 < w → 2 ^ w ≡ 2 * 2 ^ (w - 1)
 half w l = let e : w ≡ (w - 1) + 1 = omega arith in ap (λ k. 2 ^ k) e ∙ pow_more (w - 1)
 
 pub signed_complement : (w : ℕ) (z : ℤ) → 0 < w → FitsSigned w z → signed_of w (complement_of w z) ≡ z
@@ -31,17 +29,4 @@ complement_signed w n l h =
     (λ s.
     let e : (2 ^ w - suc n) % 2 ^ w ≡ 2 ^ w - suc n = mod-eq_of_lt (omega arith) in
     rw (le-ltb n (2 ^ (w - 1)) s, e) (omega arith))
-    (cases_lt n (2 ^ (w - 1)))
-
--- half of the numbers added, and taken off again after the remainder
-pub turned : (w n : ℕ) → 0 < w → n < 2 ^ w → pos ((n + 2 ^ (w - 1)) % 2 ^ w) -ℤ pos (2 ^ (w - 1)) ≡ signed_of w n
-turned w n l h =
-    ⊎_elim
-    (λ s.
-    let e : (n + 2 ^ (w - 1)) % 2 ^ w ≡ n + 2 ^ (w - 1) = mod-eq_of_lt (omega (arith, half w l)) in
-    rw (e, lt-ltb n (2 ^ (w - 1)) s) (omega (arith, ints)))
-    (λ s.
-    let g : n + 2 ^ (w - 1) ≡ n - 2 ^ (w - 1) + 2 ^ w = omega (arith, half w l) in
-    let e : (n + 2 ^ (w - 1)) % 2 ^ w ≡ n - 2 ^ (w - 1) = ap (λ k. k % 2 ^ w) g ∙ add-mod_right (n - 2 ^ (w - 1)) (2 ^ w) ∙ mod-eq_of_lt (omega arith) in
-    rw (e, le-ltb n (2 ^ (w - 1)) s) (omega (arith, ints, half w l)))
     (cases_lt n (2 ^ (w - 1)))

@@ -2,10 +2,16 @@
 use Rattle.std.proofs.Common.{◌≡◌, ℕ, zero, suc, ◌+◌, ◌-◌, ◌*◌, ◌/◌, ◌%◌, ◌^◌, ◌<◌, ◌≤◌, ◌⊎◌, List, [], ◌∷◌, ◌++◌, length, get_or, take, drop, sym, refl, ap, ◌∙◌, subst, inl, inr, ⊎_elim, zero-add, arith}
 use Rattle.std.proofs.lemmas.List.{take-append-drop, get_or-take, length-take-le}
 use Rattle.std.proofs.lemmas.Bool.{cases_lt}
-use Rattle.fields.specs.Bits.{bit, num, field_of, Field, width_of, bits_of, packed, Fit, Reads, Stored, Wrote}
+use Rattle.fields.specs.Bits.{bit, num, field_of, Field, width_of, bits_of, packed, Fit, Reads, Stored}
 use Rattle.fields.proofs.Laws.{num-bit, bit_lt, same_bytes}
 use Rattle.fields.proofs.Packs.{bits_of_lt, bits_of_past, reads_from_bits, length-packed, bit-packed, packed_bytes}
 use Rattle.fields.proofs.Puts.{drop-later}
+
+-- the first a bits of f are written over old
+pub record Wrote (f : ℕ → ℕ) (a : ℕ) (old new : List ℕ) : Type 0 where
+  pub bits : (i : ℕ) → i < a → bit new i ≡ f i
+  pub pad : (i : ℕ) → a ≤ i → i < 8 * ((a + 7) / 8) → bit new i ≡ 0
+  pub after : drop ((a + 7) / 8) new ≡ drop ((a + 7) / 8) old
 
 pub wrote_none : (f : ℕ → ℕ) (old : List ℕ) → Wrote f 0 old old
 wrote_none f old = record { bits = λ i l. absurd (omega arith); pad = λ i l m. absurd (omega arith); after = refl }

@@ -71,12 +71,6 @@ pub record Stored (old new : List ℕ) (a w value : ℕ) : Type 0 where
   pub pad : (i : ℕ) → a + w ≤ i → i < 8 * ((a + w + 7) / 8) → bit new i ≡ 0
   pub after : drop ((a + w + 7) / 8) new ≡ drop ((a + w + 7) / 8) old
 
--- new is old with the first a bits of f written over it, 0 bits from there to the end of the byte, and all later bytes as they were
-pub record Wrote (f : ℕ → ℕ) (a : ℕ) (old new : List ℕ) : Type 0 where
-  pub bits : (i : ℕ) → i < a → bit new i ≡ f i
-  pub pad : (i : ℕ) → a ≤ i → i < 8 * ((a + 7) / 8) → bit new i ≡ 0
-  pub after : drop ((a + 7) / 8) new ≡ drop ((a + 7) / 8) old
-
 -- What packing is for, over any list of fields whose values fit their widths.
 pub record Packing : Type 0 where
   -- the packed bytes have the fields one after another, and then only 0 bits

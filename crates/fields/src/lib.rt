@@ -1,27 +1,29 @@
 // Fields of bits, packed one after another, most significant bit first.
+#![tactic(auto)]
+
 ghost use Rattle.std.specs.Prelude.{◌≡◌, ℕ, ◌+◌, ◌-◌, ◌*◌, ◌/◌, ◌%◌, ◌^◌, ◌<◌, ◌≤◌, length, pos, slice_index, slice_set};
 ghost use Rattle.fields.specs.Bits.{bit, field_of, stamped, signed_of, complement_of, Stored, Packing};
 
-// The `count` whole bytes from `start` on, as one number.
-fn whole_bytes(bytes: &[u8], start: usize, count: usize) -> u32
-    requires { (count ≤ 4) × (start + count ≤ length bytes.now) }
-    ensures { result ≡ field_of bytes.now (8 * start) (8 * count) }
+// The whole bytes from `start` to before `end`, as one number.
+fn whole_bytes(bytes: &[u8], start: usize, end: usize) -> u32
+    requires { (start ≤ end) × ((end ≤ start + 4) × (end ≤ length bytes.now)) }
+    ensures { result ≡ field_of bytes.now (8 * start) (8 * (end - start)) }
 {
     let mut whole: u32 = 0;
-    for i in 0..count {
-        whole = whole << 8 | u32::from(bytes[start + i]);
+    for i in start..end {
+        whole = whole << 8 | u32::from(bytes[i]);
     }
     whole
 }
 
-// The field of `width` bits at the bit `at`, which lies in `count` bytes.
-fn cut(bytes: &[u8], at: usize, width: usize, count: usize) -> u32
+// The field of `width` bits at the bit `at`, whose last bit lies in the byte before `end`.
+fn cut(bytes: &[u8], at: usize, width: usize, end: usize) -> u32
     requires field { (0 < width) × ((width ≤ 17) × (at < 2 ^ 60)) }
-    requires count { (at % 8 + width ≤ 8 * count) × ((8 * count < at % 8 + width + 8) × (at / 8 + count ≤ length bytes.now)) }
+    requires end { (at + width ≤ 8 * end) × ((8 * end < at + width + 8) × (end ≤ length bytes.now)) }
     ensures { (result ≡ field_of bytes.now at width) × (result < 2 ^ width) }
 {
-    let whole = whole_bytes(bytes, at / 8, count);
-    (whole >> (8 * count - at % 8 - width)) & ((1 << width) - 1)
+    let whole = whole_bytes(bytes, at / 8, end);
+    (whole >> (8 * end - at - width)) & ((1 << width) - 1)
 }
 
 // The field of `width` bits at the bit `at`.
@@ -29,7 +31,7 @@ pub fn field(bytes: &[u8], at: usize, width: usize) -> u32
     requires { (0 < width) × ((width ≤ 17) × ((at + width ≤ 8 * length bytes.now) × (at < 2 ^ 60))) }
     ensures { (result ≡ field_of bytes.now at width) × (result < 2 ^ width) }
 {
-    cut(bytes, at, width, (at % 8 + width + 7) / 8)
+    cut(bytes, at, width, (at + width + 7) / 8)
 }
 
 // The byte with its first `place` bits as they are, then the bit `one`, then 0 bits.
@@ -77,29 +79,17 @@ fn power(width: usize) -> i32
     1 << width
 }
 
-// Half of the numbers that have `width` bits.
-fn half(width: usize) -> u32
-    requires { (0 < width) × (width ≤ 17) }
-    ensures { (result ≡ 2 ^ (width - 1)) × ((2 * result ≡ 2 ^ width) × (result ≤ 65536)) }
-{
-    1 << (width - 1)
-}
-
-// The bits of a field as a number in two's complement; without a branch, so that the compiler sees a sign's extension.
-fn signed(raw: u32, width: usize) -> i32
-    requires { (0 < width) × ((width ≤ 17) × (raw < 2 ^ width)) }
-    ensures { result ≡ signed_of width raw }
-{
-    let half = half(width);
-    ((raw + half) % (2 * half)) as i32 - half as i32
-}
-
 // The field of `width` bits at the bit `at`, in two's complement.
 pub fn signed_field(bytes: &[u8], at: usize, width: usize) -> i32
     requires { (0 < width) × ((width ≤ 17) × ((at + width ≤ 8 * length bytes.now) × (at < 2 ^ 60))) }
     ensures { result ≡ signed_of width (field_of bytes.now at width) }
 {
-    signed(field(bytes, at, width), width)
+    let raw = field(bytes, at, width) as i32;
+    if raw < power(width - 1) {
+        raw
+    } else {
+        raw - power(width)
+    }
 }
 
 // The bits of `value` in two's complement.

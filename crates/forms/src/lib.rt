@@ -1,6 +1,7 @@
 // What the program `certify` does for the policy file: it surveys a sheet, fills the insurer's form and makes the certificate.
-mod lines;
-pub mod paper;
-pub mod policy;
-mod probe;
+#![tactic(auto)]
+
+pub mod command;
+mod form;
+mod policy;
 mod units;

@@ -24,14 +24,19 @@ pub trait Gauge {
     fn read(&self, position: u32) -> Result<i32, Fault>
         ensures { result ≡ (meaning self.now).reading position };
 
-    // The reading as the layer above has it: a height in range, by the law, or the fault come up through one more layer.
+    // The same reading; the law keeps its height in range.
+    fn read_in_range(&self, position: u32) -> Result<i32, Fault>
+        ensures value { result ≡ (meaning self.now).reading position }
+        ensures within { IfOk result Height }
+    {
+        self.read(position)
+    }
+
+    // The reading as the layer above has it: its fault has come up through one more layer.
     fn read_below(&self, position: u32) -> Result<i32, Raised>
         ensures value { plain result ≡ lifted ((meaning self.now).reading position) }
         ensures within { IfOk result Height }
     {
-        match self.read(position) {
-            Ok(height) => Ok(height),
-            Err(fault) => Err(Raised::from(fault)),
-        }
+        Ok(self.read_in_range(position)?)
     }
 }

@@ -1,27 +1,19 @@
-// The range of every height of a list and the law between every two, by one loop with running extremes.
+// The law between every two heights of a list, by one loop with running extremes.
 ghost use Rattle.std.specs.Prelude.{◌≡◌, ℕ, ◌+◌, ◌<◌, ◌≤◌, length, ℤ, pos, ◌+ℤ◌, ◌-ℤ◌, ◌≤ℤ◌, None, int_lt};
 ghost use Rattle.std.specs.Int.{int_max, int_min};
 ghost use Rattle.terms.specs.Limits.{last_max, slope_max, slack_max, lowest_height, highest_height};
-ghost use Rattle.heights.specs.Heights.{marked, allowed, apart, partner, first_outside, first_break};
+ghost use Rattle.heights.specs.Heights.{marked, apart, partner, first_outside, first_break};
 ghost use Rattle.heights.specs.Extremes.{stray};
-ghost use Rattle.heights.specs.Fronts.{RangedFront, LawfulFront};
 ghost use Rattle.heights.specs.Theorems.{BreaksAreTold};
 
 use crate::list::Heights;
-use terms::limits::{HEIGHT_MAX, UNREAD};
+use terms::limits::UNREAD;
 
 // Whether a height marks a position without a reading.
 pub(crate) fn is_marked(height: i32) -> bool
     ensures { result ≡ marked height }
 {
     height == UNREAD
-}
-
-// Whether a height may stand in a list: it is in range, or marks a position without a reading.
-pub(crate) fn is_allowed(height: i32) -> bool
-    ensures { result ≡ allowed height }
-{
-    height == UNREAD || -HEIGHT_MAX <= height && height <= HEIGHT_MAX
 }
 
 // Whether two readable heights differ by more than a reach.
@@ -106,11 +98,12 @@ fn with_height(so_far: Extremes, height: i32, rise: u32) -> Extremes
     }
 }
 
-// How many heights, from the first on, may stand in the list and keep the law with all before them.
-pub(crate) fn sound_front<H: Heights>(heights: &H, slope: u32, slack: u32) -> usize
-    requires { (length (H.Heights.list heights.now) ≤ last_max + 1) × ((slope ≤ slope_max) × (slack ≤ slack_max)) }
-    ensures ranged { RangedFront (H.Heights.list heights.now) result }
-    ensures lawful { LawfulFront slope slack (H.Heights.list heights.now) result }
+// The lowest position that breaks the law with an earlier one, and the lowest such earlier one.
+pub(crate) fn find_break<H: Heights>(heights: &H, slope: u32, slack: u32) -> Option<(u32, u32)>
+    requires sizes { (length (H.Heights.list heights.now) ≤ last_max + 1) × ((slope ≤ slope_max) × (slack ≤ slack_max)) }
+    requires ranged { first_outside (H.Heights.list heights.now) ≡ None }
+    ensures is { result ≡ first_break slope slack (H.Heights.list heights.now) }
+    ensures told { BreaksAreTold }
 {
     // Outside of all that heights within their range can come to.
     let mut so_far = Extremes {
@@ -119,37 +112,15 @@ pub(crate) fn sound_front<H: Heights>(heights: &H, slope: u32, slack: u32) -> us
     };
     for later in 0..heights.count() {
         let height = heights.height(later);
-        if !is_allowed(height) {
-            return later;
-        }
         if !is_marked(height) {
             let rise = slope * later as u32;
             if is_stray(so_far, height, rise, slack) {
-                return later;
+                // A stray height always has a partner.
+                let earlier = find_partner(heights, slope, slack, later)?;
+                return Some((later as u32, earlier));
             }
             so_far = with_height(so_far, height, rise);
         }
     }
-    heights.count()
-}
-
-// The lowest position that breaks the law with an earlier one, and the lowest such earlier one: it is the first after the sound front.
-pub(crate) fn find_break<H: Heights>(
-    heights: &H,
-    slope: u32,
-    slack: u32,
-    front: usize,
-) -> Option<(u32, u32)>
-    requires sizes { (length (H.Heights.list heights.now) ≤ last_max + 1) × ((slope ≤ slope_max) × (slack ≤ slack_max)) }
-    requires front { (LawfulFront slope slack (H.Heights.list heights.now) front) × (front ≤ length (H.Heights.list heights.now)) }
-    requires ranged { first_outside (H.Heights.list heights.now) ≡ None }
-    ensures is { result ≡ first_break slope slack (H.Heights.list heights.now) }
-    ensures told { BreaksAreTold }
-{
-    if front == heights.count() {
-        return None;
-    }
-    // A height that ends the front always has a partner.
-    let earlier = find_partner(heights, slope, slack, front)?;
-    Some((front as u32, earlier))
+    None
 }

@@ -1,4 +1,6 @@
 // Lists of heights: the tests of a list, and what a gauge over one reads.
+#![tactic(auto)]
+
 pub mod checks;
 mod law;
 pub mod list;

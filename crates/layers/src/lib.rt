@@ -1,4 +1,6 @@
 // Layers: gauges made of other gauges, which they hold by value.
+#![tactic(auto)]
+
 pub mod coarse;
 pub mod flip;
 pub mod higher;

@@ -1,5 +1,7 @@
 // The rules of the survey a second time, as literally as they can be said and as slowly as that takes.
 // It shares no text and no type with the crates that it is compared with.
+#![tactic(auto)]
+
 pub mod bits;
 pub mod envelope;
 pub mod gauges;

@@ -1,4 +1,6 @@
 // The first item of highest rank: one text for every kind of item that has a whole-number rank.
+#![tactic(auto)]
+
 ghost use Rattle.std.specs.Prelude.{◌≡◌, List, length, drop, ℤ, int_lt, nat_lt};
 ghost use Rattle.pick.specs.Picks.{head, tail, picked, Picks, better, first_above, Finds};
 

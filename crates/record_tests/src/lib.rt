@@ -1,4 +1,5 @@
 // Records that just meet each number of refusal, and records that just do not.
+#![tactic(auto)]
 
 #[cfg(test)]
 mod tests {

@@ -1,6 +1,7 @@
-// What the program `sheet` tells of a record, and makes of a text, as functions on values.
-pub mod failure;
-mod lines;
-pub mod packing;
-pub mod report;
+// What the program `sheet` prints, and its two commands.
+#![tactic(auto)]
+
+pub mod arguments;
+pub mod commands;
+mod report;
 pub mod stack;

@@ -1,42 +1,60 @@
-// The report of a record.
-ghost use Rattle.std.specs.Prelude.{◌≡◌, true, is_ok, Ok, string_bytes};
+// A record's report.
+ghost use Rattle.std.specs.Prelude.{◌≡◌, true, is_ok};
 ghost use Rattle.records.specs.Verdict.{record_verdict};
-ghost use Rattle.reports.specs.Failures.{Puts, Tells};
-ghost use Rattle.reports.specs.Reports.{record_lines, report_of};
 
-use crate::failure::NoReport;
-use crate::lines::{put_again, put_length, put_other, put_summary};
-use crate::stack::Layers;
-use crate::stack::puts::put_stack;
-use records::record::{Record, check};
+use gauges::gauge::Gauge;
+use records::record::Record;
 use sheets::repack::packs_again;
+use sheets::summary::{Spot, summarize};
 use std::alloc::Global;
+use std::fmt;
+use std::fmt::Write;
 
-// The gauge's name of the record.
-const RECORD_NAME: u8 = 1;
-
-// What an accepted record says, and that packing it again gives the same bytes.
-fn put_record(heap: Global, out: &mut String, bytes: &[u8], name: u8) -> Result<(), NoReport>
-    requires { is_ok (record_verdict bytes.now name) ≡ true }
-    ensures { Puts (string_bytes out.old) (Ok (record_lines bytes.now name)) result (string_bytes out.new) }
-{
-    put_length(out, bytes.len())?;
-    put_summary(out, &Record::new(bytes, name))?;
-    if !packs_again(heap, bytes, name)? {
-        put_other(out)?;
-        return Ok(());
+// The line of the lowest or the highest height.
+fn put_spot(out: &mut String, which: &str, spot: Option<Spot>) -> fmt::Result {
+    match spot {
+        Some(Spot { position, height }) => {
+            writeln!(out, "{which} height {height} at position {position}")
+        }
+        None => writeln!(out, "{which} height none"),
     }
-    put_again(out, bytes.len())?;
-    Ok(())
 }
 
-// The report of an accepted record under layers, or its refusal.
-pub fn report(heap: Global, bytes: &[u8], layers: Layers) -> Result<String, NoReport>
-    ensures { Tells (report_of bytes.now layers.beam layers.step) result }
+// Last position, slope and slack of any gauge.
+pub(crate) fn put_line<G: Gauge>(out: &mut String, gauge: &G) -> fmt::Result {
+    let last = gauge.last();
+    let slope = gauge.slope();
+    let slack = gauge.slack();
+    writeln!(out, "last position {last}, slope {slope}, slack {slack}")
+}
+
+// The line, the number of readable positions, the lowest and the highest height of any gauge.
+fn put_summary<G: Gauge>(out: &mut String, gauge: &G) -> fmt::Result {
+    put_line(out, gauge)?;
+    let summary = summarize(gauge);
+    let readable = summary.readable;
+    let positions = gauge.last() + 1;
+    writeln!(out, "readable positions {readable} of {positions}")?;
+    put_spot(out, "lowest", summary.lowest)?;
+    put_spot(out, "highest", summary.highest)
+}
+
+// What an accepted record says, and that packing it again gives the same bytes.
+pub(crate) fn put_record(
+    heap: Global,
+    out: &mut String,
+    bytes: &[u8],
+    name: u8,
+) -> anyhow::Result<()>
+    requires { is_ok (record_verdict bytes.now name) ≡ true }
 {
-    check(bytes, RECORD_NAME)?;
-    let mut out = String::new(heap);
-    put_record(heap, &mut out, bytes, RECORD_NAME)?;
-    put_stack(&mut out, Record::new(bytes, RECORD_NAME), layers)?;
-    Ok(out)
+    let length = bytes.len();
+    writeln!(out, "record of {length} bytes")?;
+    put_summary(out, &Record::new(bytes, name))?;
+    if packs_again(heap, bytes, name)? {
+        writeln!(out, "packed again: the same {length} bytes")?;
+    } else {
+        writeln!(out, "packed again: other bytes")?;
+    }
+    Ok(())
 }

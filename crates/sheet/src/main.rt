@@ -1,9 +1,8 @@
 // Shows a sheet record, or packs one from text.
-mod arguments;
-mod commands;
+#![tactic(auto)]
 
-use crate::arguments::read_command;
-use crate::commands::run;
+use reports::arguments::read_command;
+use reports::commands::run;
 use std::env;
 
 // Reads the words and does what they say.

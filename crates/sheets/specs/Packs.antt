@@ -6,8 +6,8 @@ use Rattle.sheets.specs.declared.pack.NoRecord.TheVariants.{Refused, NoMemory}
 use Rattle.records.specs.Sheet.{sheet_with, record_of}
 use Rattle.records.specs.Verdict.{verdict_of}
 
--- a lawful sheet's record, or its refusal; only memory can be wanting beside that
+-- the sheet's record, or its refusal; only memory can be wanting beside that
 abbrev pub PackedAs : ℕ → ℕ → List ℤ → Result (Vec ℕ Global) NoRecord → Type 0
-PackedAs slope slack heights (Ok v) = (verdict_of (sheet_with slope slack heights) ≡ Ok tt) × (vec_items v ≡ record_of (sheet_with slope slack heights))
+PackedAs slope slack heights (Ok v) = vec_items v ≡ record_of (sheet_with slope slack heights)
 PackedAs slope slack heights (Err (Refused e)) = verdict_of (sheet_with slope slack heights) ≡ Err e
 PackedAs slope slack heights (Err NoMemory) = Unit {0}

@@ -1,4 +1,7 @@
-// What is told of a record, and a sheet's record in memory of its own.
+// What the program `sheet` tells of a record, and makes of a text.
+#![tactic(auto)]
+
 pub mod pack;
 pub mod repack;
 pub mod summary;
+pub mod text;

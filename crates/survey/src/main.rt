@@ -1,4 +1,6 @@
 // Surveys the sheet of file `sheet.rec` by the commands of standard input.
+#![tactic(auto)]
+
 use std::io::{ErrorKind, Read, Write};
 use std::{fs, io};
 use transcripts::print::{input_bound, is_accepted, print, sheet_bound};
@@ -37,9 +39,5 @@ fn run(rt: &HostRuntime) -> anyhow::Result<()> {
 }
 
 fn main(rt: HostRuntime) -> anyhow::Result<()> {
-    let result = run(&rt);
-    if let Err(error) = &result {
-        let _ = eprintln!(rt; "survey: {error}");
-    }
-    result
+    run(&rt)
 }

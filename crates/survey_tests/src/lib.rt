@@ -1,4 +1,5 @@
 // Inputs at the edges of what is a command, and what they print.
+#![tactic(auto)]
 
 #[cfg(test)]
 mod tests {

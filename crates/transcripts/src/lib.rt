@@ -1,4 +1,6 @@
 // What the command program prints.
+#![tactic(auto)]
+
 pub mod entry;
 mod lines;
 pub mod print;

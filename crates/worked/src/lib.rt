@@ -1,4 +1,6 @@
 // The sheet of the worked examples, and their figures as one fact.
+#![tactic(auto)]
+
 ghost use Rattle.std.specs.Prelude.{◌≡◌};
 ghost use Rattle.caps.specs.Figures.{line_a, sheet_a};
 ghost use Rattle.worked.specs.Worked.{WorkedExamples};

@@ -1,13 +1,7 @@
-use Rattle.std.proofs.Common.{ℕ, ◌++◌, length, drop, ap, ◌∙◌, arith}
-use Rattle.certificates.specs.Layout.{certificate_size}
+use Rattle.std.proofs.Common.{ℕ, length, arith}
 use Rattle.certificates.proofs.Heads.{HeadFits}
-use Rattle.certificates.proofs.Touches.{all_low, all_written, floor_within, packed-told}
+use Rattle.certificates.proofs.Touches.{all_low, all_written}
 use Rattle.certificates.proofs.writer.write_fields.Goals as goal
-
-pub write-head-requires : goal.write-head-requires
-write-head-requires c =
-    let s = c.requires.sound.0 in
-    record { line = s.limits; fits = (s.few, floor_within c.args.line c.args.touches.now s c.args.seen c.requires.sound.1); room = omega arith }
 
 pub write-touches-requires : goal.write-touches-requires
 write-touches-requires c =
@@ -17,7 +11,6 @@ write-touches-requires c =
 pub returns : goal.returns
 returns c =
     let s = c.requires.sound.0 in
-    let on_line = floor_within c.args.line c.args.touches.now s c.args.seen c.requires.sound.1 in
     let fits : HeadFits c.args.line c.args.tolerance (length c.args.touches.now) c.args.seen = record {
       last = omega (arith, s.limits.last_high);
       slope = omega (arith, s.limits.slope_high);
@@ -30,4 +23,3 @@ returns c =
     (all_low c.args.line.last c.args.touches.now s.limits.last_high s.on_line.within)
     c.args.buf.now c.write-head.new.buf c.write-touches.new.buf
     (λ i. (c.type-inv.buf i).fits) (omega arith) c.write-head.ensures c.write-touches.ensures
-    ∙ ap (λ x. x ++ drop (certificate_size (length c.args.touches.now)) c.args.buf.now) (packed-told c.args.line c.args.tolerance c.args.touches.now c.args.seen c.requires.sound.1)

@@ -1,8 +1,8 @@
-use Rattle.std.proofs.Common.{◌≡◌, length, sym, ◌∙◌, rules}
+use Rattle.std.proofs.Common.{◌≡◌, length, ◌∙◌, rules}
 use Rattle.std.proofs.lemmas.List.{take_at}
 use Rattle.sheets.proofs.pack.pack.Goals as goal
 
 pub returns : goal.returns
 returns c =
     let all : length c.fill.new.bytes ≡ c.in-ok-bytes.bytes.len = search rules in
-    (sym c.in-ok-check-sheet.ensures, take_at _ _ _ all ∙ c.fill.ensures)
+    take_at _ _ _ all ∙ c.fill.ensures

@@ -1,0 +1,51 @@
+// The command `certify`, over the runtime.
+use crate::policy::{Policy, policy_for};
+use anyhow::anyhow;
+use std::env::Args;
+use std::fs;
+use std::io::{Read, Write};
+
+const USAGE: &str = "usage: certify TOLERANCE, in a folder with sheet.rec";
+
+const RECORD_PATH: &str = "sheet.rec";
+
+const CERTIFICATE_PATH: &str = "sheet.cert";
+
+// One byte more than the longest record: enough to refuse every longer one.
+const RECORD_BOUND: u64 = 8_009;
+
+// The tolerance that the words say, in micrometres; the first word is the program's name.
+pub fn read_tolerance(mut args: Args) -> anyhow::Result<u32> {
+    let _ = args.next();
+    match (args.next(), args.next()) {
+        (Some(word), None) => Ok(word.as_str().parse::<u32>()?),
+        _ => Err(USAGE.into()),
+    }
+}
+
+// The bytes of the record's file, read to the bound of records.
+fn read_record(rt: &HostRuntime) -> anyhow::Result<Vec<u8>> {
+    let mut bytes = Vec::new(rt.alloc());
+    fs::open(rt, RECORD_PATH)?
+        .take(RECORD_BOUND)
+        .read_to_end(&mut bytes)?;
+    Ok(bytes)
+}
+
+// Surveys the sheet, prints the form, and writes the certificate; where there is none, says why.
+pub fn run(rt: &HostRuntime, tolerance: u32) -> anyhow::Result<()> {
+    let record = read_record(rt)?;
+    let Policy { form, certificate } = policy_for(rt, &record, tolerance)?;
+    rt.stdout().write_all(form.as_bytes())?;
+    match certificate {
+        Ok(bytes) => {
+            fs::write(rt, CERTIFICATE_PATH, bytes.as_slice())?;
+            let length = bytes.len();
+            println!(rt; "certificate of {length} bytes written to {CERTIFICATE_PATH}")?;
+            Ok(())
+        }
+        Err(refusal) => Err(anyhow!(format!(in rt.alloc();
+            "no certificate, refused with {refusal}"
+        )?)),
+    }
+}

@@ -1,0 +1,101 @@
+-- The certificate that is cut out of a buffer, and what it is where the probing stopped.
+use Rattle.std.proofs.Common.{◌≡◌, ℕ, ◌≤◌, Bool, true, false, cond, List, [], ◌∷◌, ◌++◌, length, take, drop, Some, None, Ok, Err, Option, Result, sym, refl, ap, ◌∙◌, subst, append_assoc, append-nil, arith}
+use Rattle.std.proofs.lemmas.List.{take_at}
+use Rattle.std.proofs.lemmas.Bool.{cond-false, le-ltb}
+use Rattle.terms.specs.Limits.{touches_max}
+use Rattle.terms.specs.declared.refusal.Refusal.{Refusal}
+use Rattle.terms.specs.declared.refusal.Refusal.TheVariants.{NotSettled}
+use Rattle.caps.specs.declared.Touch.{Touch}
+use Rattle.caps.specs.declared.Line.{Line}
+use Rattle.caps.specs.declared.Outlook.{Outlook}
+use Rattle.caps.specs.Outlooks.{outlook, settled_by}
+use Rattle.terms.specs.Meaning.{Meaning}
+use Rattle.records.specs.Laws.{record_meaning}
+use Rattle.surveys.specs.States.{Readings, State, standing, settled, opened}
+use Rattle.surveys.specs.Calls.{high}
+use Rattle.certificates.specs.Layout.{certificate_of, certificate_size}
+use Rattle.certificates.specs.Verdict.{settled_or, with_room, written, certificate_verdict, left_by, certificate_leaves}
+use Rattle.certificates.proofs.Touches.{length_certificate}
+use Rattle.policies.specs.Lines.{known_text}
+use Rattle.policies.specs.Probes.{room, after_highs, touches_told}
+use Rattle.policies.specs.Policies.{bytes_or, certificate_told, or_stop, Closed, probed, survey_text, gauge_name, gauge_of, start_of, text_unless, Ends}
+
+-- where there is room for it, a certificate is refused only by 19 and 20
+roomy : (size room : ℕ) (v : Result Outlook Refusal) → size ≤ room → with_room size room v ≡ v
+roomy size room (Ok o) h = cond-false _ _ _ (le-ltb room size h)
+roomy size room (Err e) h = refl
+
+counted : (size n : ℕ) (bytes : List ℕ) (v : Result Outlook Refusal) → Ok n ≡ written size v → (n ≡ size) × (Ok bytes ≡ bytes_or bytes v)
+counted size n bytes (Ok o) e = let s : n ≡ size = cc in (s, refl)
+counted size n bytes (Err x) e = let z : ◌≡◌ {A = ℕ} 0 1 = cc in absurd (omega arith)
+
+uncounted : (size : ℕ) (x : Refusal) (bytes : List ℕ) (v : Result Outlook Refusal) → Err x ≡ written size v → Err x ≡ bytes_or bytes v
+uncounted size x bytes (Ok o) e = let z : ◌≡◌ {A = ℕ} 0 1 = cc in absurd (omega arith)
+uncounted size x bytes (Err y) e = let s : x ≡ y = cc in ap (λ (u : Refusal). Err u) s
+
+module _ (line : Line) (t : ℕ) (room : ℕ) where
+  enough : (ts : List Touch) → length ts ≤ touches_max → room ≡ certificate_size touches_max → certificate_verdict line t ts room ≡ written (certificate_size (length ts)) (settled_or t (outlook line ts))
+  enough ts few long = ap (written (certificate_size (length ts))) (roomy (certificate_size (length ts)) room (settled_or t (outlook line ts)) (omega arith))
+
+  pub certificate_cut : (ts : List Touch) (old new : List ℕ) (n : ℕ) → room ≡ length old → length ts ≤ touches_max → room ≡ certificate_size touches_max → Ok n ≡ certificate_verdict line t ts (length old) →
+      new ≡ certificate_leaves line t ts old → Ok (take n new) ≡ bytes_or (certificate_of line t ts) (settled_or t (outlook line ts))
+  certificate_cut [] old new n r few long v b = let z : ◌≡◌ {A = ℕ} 0 1 = cc in absurd (omega arith)
+  certificate_cut (a ∷ ts) old new n r few long v b =
+      let all = a ∷ ts in
+      let bytes = certificate_of line t (a ∷ ts) in
+      let here = v ∙ ap (certificate_verdict line t (a ∷ ts)) (sym r) ∙ enough (a ∷ ts) few long in
+      let c = counted (certificate_size (length (a ∷ ts))) n bytes (settled_or t (outlook line (a ∷ ts))) here in
+      let front : new ≡ bytes ++ drop n old = b ∙ ap (left_by bytes old) (sym v) in
+      let cut : take n new ≡ bytes = ap (take n) front ∙ take_at bytes (drop n old) n (length_certificate line t a ts ∙ sym c.0) in
+      ap (λ (x : List ℕ). Ok x) cut ∙ c.1
+
+  pub certificate_refused : (ts : List Touch) (old : List ℕ) (x : Refusal) → room ≡ length old → length ts ≤ touches_max → room ≡ certificate_size touches_max → Err x ≡ certificate_verdict line t ts (length old) →
+      Err x ≡ bytes_or (certificate_of line t ts) (settled_or t (outlook line ts))
+  certificate_refused ts old x r few long v =
+      uncounted (certificate_size (length ts)) x (certificate_of line t ts) (settled_or t (outlook line ts)) (v ∙ ap (certificate_verdict line t ts) (sym r) ∙ enough ts few long)
+
+-- a survey without a certificate is not settled
+by_test : (b : Bool) (o : Outlook) (bytes : List ℕ) (e : Refusal) → Err e ≡ bytes_or bytes (cond b (Ok o) (Err NotSettled)) → b ≡ false
+by_test true o bytes e h = let z : ◌≡◌ {A = ℕ} 0 1 = cc in absurd (omega arith)
+by_test false o bytes e h = refl
+
+unsettled : (t : ℕ) (o : Option Outlook) (bytes : List ℕ) (e : Refusal) → Err e ≡ bytes_or bytes (settled_or t o) → settled_by o t ≡ false
+unsettled t None bytes e h = refl
+unsettled t (Some o) bytes e h = by_test (settled_by (Some o) t) o bytes e h
+
+pub closed : (R : Readings) (s : State) (stop : Refusal) (c v : Result (List ℕ) Refusal) → (high R s).answer ≡ Err stop → v ≡ certificate_told s → c ≡ or_stop stop v → Closed R s c
+closed R s stop c (Ok bytes) h v e = subst (Closed R s) (sym e) v
+closed R s stop c (Err x) h v e = subst (Closed R s) (sym e) (unsettled s.tolerance (standing s) (certificate_of s.line s.tolerance s.touches) x v, h)
+
+-- the same of the survey that was opened, with what was printed
+module _ (m : Meaning) (s : State) (R : Readings) (start after : State) (same : R ≡ m.reading) (opens : start ≡ s) (left : after ≡ after_highs (room start) R start) where
+  pub printed : (before mid end : List ℕ) → mid ≡ before ++ touches_told (room start) R start → end ≡ mid ++ known_text after → end ≡ before ++ survey_text m s
+  unfolding survey_text probed
+  printed before mid end p q =
+      q ∙ ap (λ x. x ++ known_text after) p ∙ append_assoc before (touches_told (room start) R start) (known_text after)
+      ∙ ap (λ (a : State). before ++ (touches_told (room start) R start ++ known_text a)) left
+      ∙ ap (λ (x : State). before ++ (touches_told (room x) R x ++ known_text (after_highs (room x) R x))) opens
+      ∙ ap (λ (Q : Readings). before ++ (touches_told (room s) Q s ++ known_text (after_highs (room s) Q s))) same
+
+  pub answered : (stop : Refusal) (c : Result (List ℕ) Refusal) → (high R after).answer ≡ Err stop → c ≡ or_stop stop (certificate_told after) → Closed m.reading (probed m s) c
+  unfolding probed
+  answered stop c h e =
+      let here = closed R after stop c (certificate_told after) h refl e in
+      let there = subst (λ (a : State). Closed R a c) (left ∙ ap (λ (x : State). after_highs (room x) R x) opens) here in
+      subst (λ (Q : Readings). Closed Q (after_highs (room s) Q s) c) same there
+
+-- what holds of the gauge and the start that were made holds of those that were asked for
+pub as_asked : (P : Meaning → State → Type 0) (b sheet : List ℕ) (name t l tolerance : ℕ) → b ≡ sheet → name ≡ gauge_name → t ≡ tolerance → l ≡ touches_max →
+    P (record_meaning b name) (opened (record_meaning b name) t l) → P (gauge_of sheet) (start_of sheet tolerance)
+as_asked P b sheet name t l tolerance e f g h p =
+    subst (λ n. P (gauge_of sheet) (opened (gauge_of sheet) tolerance n)) h
+    (subst (λ n. P (gauge_of sheet) (opened (gauge_of sheet) n l)) g
+    (subst (λ n. P (record_meaning sheet n) (opened (record_meaning sheet n) t l)) f
+    (subst (λ (x : List ℕ). P (record_meaning x name) (opened (record_meaning x name) t l)) e p)))
+
+-- where something refuses before the first touch, nothing is printed, and that is answered
+pub silent_if : (before text : List ℕ) (o : Option Refusal) (e : Refusal) → o ≡ Some e → before ≡ before ++ text_unless o text
+silent_if before text o e h = sym (append-nil before) ∙ ap (λ (x : Option Refusal). before ++ text_unless x text) (sym h)
+
+pub ends_if : (m : Meaning) (s : State) (o : Option Refusal) (e : Refusal) → o ≡ Some e → Ends o m s (Err e)
+ends_if m s o e h = subst (λ (x : Option Refusal). Ends x m s (Err e)) (sym h) refl

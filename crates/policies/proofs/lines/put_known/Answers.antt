@@ -1,0 +1,13 @@
+use Rattle.std.proofs.Common.{length, string_bytes, ap, ◌∙◌}
+use Rattle.logs.specs.Logs.{state_of}
+use Rattle.policies.specs.Lines.{spans_text, bounds_text, tally_text}
+use Rattle.policies.proofs.Texts.{three}
+use Rattle.policies.proofs.lines.put_known.Goals as goal
+
+pub returns : goal.returns
+returns c =
+    three (string_bytes c.args.out.now) (string_bytes c.put-spans.new.out) (string_bytes c.put-bounds.new.out) (string_bytes c.put-tally.new.out) _ _ _ _ _ _
+    c.in-ok-put-spans.ensures (ap (spans_text c.args.log.now.notes.line.last) (c.as-slice.ensures.value ∙ c.in-ok-gaps.ensures.is))
+    c.in-ok-put-bounds.ensures (ap bounds_text c.look.ensures)
+    c.in-ok-put-tally.ensures
+    (ap (λ n. tally_text n c.most-touches.result) c.number-of-touches.ensures ∙ ap (tally_text (length (state_of c.args.log.now).touches)) c.most-touches.ensures)

@@ -1,0 +1,35 @@
+use Rattle.std.proofs.Common.{◌≡◌, ◌++◌, IfOk, vec_items, Option, sym, subst}
+use Rattle.terms.specs.Limits.{touches_max}
+use Rattle.terms.specs.Meaning.{Meaning}
+use Rattle.terms.specs.declared.refusal.Refusal.{Refusal}
+use Rattle.surveys.specs.States.{State, opening_refusal}
+use Rattle.policies.specs.Policies.{as_list, Closed, probed, survey_text, gauge_of, start_of, text_unless, Ends}
+use Rattle.policies.proofs.Closings.{as_asked, silent_if, ends_if}
+use Rattle.policies.proofs.policy.survey_record.Goals as goal
+
+pub returns-in-Ok : goal.returns-in-Ok
+returns-in-Ok g c =
+    let sheet = c.args.bytes.now in
+    let tolerance = c.args.tolerance in
+    let gauge = c.new-gauge.result in
+    let set = c.in-Ok.setting in
+    let asked = c.in-Ok.ensures in
+    let before = g.P.Paper.said c.args.paper.now in
+    let after = g.P.Paper.said c.survey-line.new.paper in
+    let r = c.survey-line.result in
+    record {
+      text =
+          subst (λ (o : Option Refusal). IfOk r (λ _. after ≡ before ++ text_unless o (survey_text (gauge_of sheet) (start_of sheet tolerance)))) (sym asked.0)
+          (as_asked (λ (m : Meaning) (s : State). IfOk r (λ _. after ≡ before ++ survey_text m s)) gauge.bytes.now sheet gauge.name set.tolerance set.limit tolerance
+          c.new-gauge.ensures.0 c.new-gauge.ensures.1 asked.1 asked.2 c.survey-line.ensures.text);
+      policy =
+          subst (λ (o : Option Refusal). IfOk r (λ x. Ends o (gauge_of sheet) (start_of sheet tolerance) (as_list vec_items x))) (sym asked.0)
+          (as_asked (λ (m : Meaning) (s : State). IfOk r (λ x. Closed m.reading (probed m s) (as_list vec_items x))) gauge.bytes.now sheet gauge.name set.tolerance set.limit tolerance
+          c.new-gauge.ensures.0 c.new-gauge.ensures.1 asked.1 asked.2 c.survey-line.ensures.certificate);
+    }
+
+pub returns-in-Err : goal.returns-in-Err
+returns-in-Err g c = record {
+  text = silent_if (g.P.Paper.said c.args.paper.now) _ (opening_refusal c.args.tolerance touches_max) c.in-Err.refusal c.in-Err.ensures;
+  policy = ends_if _ _ (opening_refusal c.args.tolerance touches_max) c.in-Err.refusal c.in-Err.ensures;
+}
