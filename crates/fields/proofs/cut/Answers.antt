@@ -12,9 +12,9 @@ returns c =
     let w : ℕ = c.args.width in
     let e : ℕ = c.args.end in
     let r : ℕ = 8 * e - a - w in
-    let v : ℕ = c.whole-bytes-whole.result in
+    let v : ℕ = c.whole_bytes-whole.result in
     let q : bit_and (v / 2 ^ r) ((1 * 2 ^ w) % 2 ^ 32 - 1) ≡ field_of bs a w =
     ap (λ x. bit_and (v / 2 ^ r) (x - 1)) (one_shl w 32 (omega arith)) ∙ and_mask (v / 2 ^ r) w
-    ∙ ap (λ x. x / 2 ^ r % 2 ^ w) c.whole-bytes-whole.ensures
+    ∙ ap (λ x. x / 2 ^ r % 2 ^ w) c.whole_bytes-whole.ensures
     ∙ field_inside bs (8 * (a / 8)) a (a % 8) w r (8 * (e - a / 8)) (omega arith) (omega arith) in
     (q, subst (λ x. x < 2 ^ w) (sym q) (field_lt bs a w))

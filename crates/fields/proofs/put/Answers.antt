@@ -9,7 +9,7 @@ pub loop-k-init : goal.loop-k-init
 loop-k-init c = put_none _ _ _ _
 
 pub loop-k-preserved : goal.loop-k-preserved
-loop-k-preserved c = simp c.put-bit.ensures (put_more _ _ _ _ _ _ c.loop-k.invariant _ c.bit-of.ensures.is (omega arith))
+loop-k-preserved c = simp c.put_bit.ensures (put_more _ _ _ _ _ _ c.loop-k.invariant _ c.bit_of.ensures.is (omega arith))
 
 pub returns : goal.returns
 unfolding field_of

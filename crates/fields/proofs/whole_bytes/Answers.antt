@@ -18,7 +18,7 @@ loop-i-preserved c =
     let n : 8 * (i - s) ≤ 24 = omega arith in
     let m : c.loop-i.whole < 2 ^ 24 = omega (arith, c.loop-i.invariant, field_lt bs (8 * s) (8 * (i - s)), pow_mono n) in
     let t = shl_whole c.loop-i.whole 24 8 32 m (omega arith) in
-    let small : get_or bs i 0 < 256 = (c.type-inv.bytes i).fits in
+    let small : get_or bs i 0 < 256 = (c.type_inv.bytes i).fits in
     let o = or_shifted c.loop-i.whole 8 (get_or bs i 0) small in
     ap (λ x. bit_or x c.from.result) t ∙ ap (bit_or (c.loop-i.whole * 256)) c.from.ensures ∙ o ∙ ap (λ x. x * 256 + get_or bs i 0) c.loop-i.invariant ∙ sym (field_byte_more bs s i (omega arith) small)
 

@@ -3,8 +3,8 @@ use Rattle.pick.specs.Picks.{first_above, Finds}
 use Rattle.pick.proofs.Computed.{above_finds}
 use Rattle.pick.proofs.first_above.Goals as goal
 
-pub returns-then-is-above : goal.returns-then-is-above
-returns-then-is-above g c =
+pub returns-then-is_above : goal.returns-then-is_above
+returns-then-is_above g c =
     let f = g.S.Item.Ranked.level in
     let all = g.S.Source.rest c.args.source in
     let is : Some c.in-Some.item ≡ first_above g.S.Item.Ranked.level c.args.bound (g.S.Source.rest c.args.source) = search rules in

@@ -4,14 +4,14 @@ use Rattle.heights.specs.Heights.{breaks}
 use Rattle.heights.proofs.Lowest.{lowest_none, lowest_some}
 use Rattle.heights.proofs.law.find_partner.Goals as goal
 
-pub returns-then-is-apart : goal.returns-then-is-apart
-returns-then-is-apart g c =
+pub returns-then-is_apart : goal.returns-then-is_apart
+returns-then-is_apart g c =
     let xs = g.H.Heights.list c.args.heights.now in
     let later : ℕ = c.args.later in
     let test = breaks c.args.slope c.args.slack xs later in
     let a : SFits w32 c.height.result = search rules in
     let b : SFits w32 c.height-height.result = search rules in
-    let e = simp to_z-of_z at c.if-is-apart.ensures in
+    let e = simp to_z-of_z at c.if-is_apart.ensures in
     let t : test c.loop-earlier.earlier ≡ true = cc in
     sym (lowest_some test 0 later c.loop-earlier.earlier (omega arith) (omega arith) t (λ k a l. c.loop-earlier.invariant k l))
 
@@ -20,7 +20,7 @@ loop-earlier-preserved g c =
     let xs = g.H.Heights.list c.args.heights.now in
     let a : SFits w32 c.height.result = search rules in
     let b : SFits w32 c.height-height.result = search rules in
-    let e = simp to_z-of_z at c.if-is-apart.ensures in
+    let e = simp to_z-of_z at c.if-is_apart.ensures in
     let t : breaks c.args.slope c.args.slack xs c.args.later c.loop-earlier.earlier ≡ false = cc in
     below_more _ _ c.loop-earlier.invariant t
 
