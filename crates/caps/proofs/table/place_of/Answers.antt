@@ -7,12 +7,12 @@ loop-i-init c = omega arith
 
 pub loop-i-preserved : goal.loop-i-preserved
 loop-i-preserved c =
-    let e = before_here c.args.position c.args.touches.now c.loop-i.i (omega arith) (sym c.is-after.ensures ∙ c.if-is-after.false) in
+    let e = before_here c.args.position c.args.touches.now c.loop-i.i (omega arith) (sym c.is_after.ensures ∙ c.if-is_after.false) in
     omega arith
 
-pub returns-then-is-after : goal.returns-then-is-after
-returns-then-is-after c =
-    let e = before_stop c.args.position c.args.touches.now c.loop-i.i (omega arith) (sym c.is-after.ensures ∙ c.if-is-after.true) in
+pub returns-then-is_after : goal.returns-then-is_after
+returns-then-is_after c =
+    let e = before_stop c.args.position c.args.touches.now c.loop-i.i (omega arith) (sym c.is_after.ensures ∙ c.if-is_after.true) in
     omega arith
 
 pub returns : goal.returns

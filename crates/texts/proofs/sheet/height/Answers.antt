@@ -6,4 +6,4 @@ pub returns-in-45 : goal.returns-in-45
 returns-in-45 c =
     let word : List ℕ = c.args.word.now in
     let dashed : get_or word 0 0 ≡ 45 = omega arith in
-    c.after-dash.ensures ∙ dash_first word dashed
+    c.after_dash.ensures ∙ dash_first word dashed

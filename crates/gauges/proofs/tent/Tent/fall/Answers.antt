@@ -10,6 +10,6 @@ is_distance d p q e = e
 pub returns : goal.returns
 returns c =
     let t = c.args.self.now in
-    let e = is_distance c.abs-diff.result c.args.position t.crown c.abs-diff.ensures in
-    let d : c.abs-diff.result ≤ last_max = omega (arith, t.crowned, t.lasts) in
-    record { value = mul_comm c.abs-diff.result t.slope ∙ ap (λ n. t.slope * n) e; bound = mul-le-mul {n₂ = last_max} {m₂ = slope_max} d t.slopes.1 }
+    let e = is_distance c.abs_diff.result c.args.position t.crown c.abs_diff.ensures in
+    let d : c.abs_diff.result ≤ last_max = omega (arith, t.crowned, t.lasts) in
+    record { value = mul_comm c.abs_diff.result t.slope ∙ ap (λ n. t.slope * n) e; bound = mul-le-mul {n₂ = last_max} {m₂ = slope_max} d t.slopes.1 }
