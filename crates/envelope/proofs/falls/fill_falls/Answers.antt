@@ -20,8 +20,8 @@ loop-i-init c = (
   refl,
 )
 
-pub lower-fall-low-requires : goal.lower-fall-low-requires
-lower-fall-low-requires c =
+pub lower_fall-low-requires : goal.lower_fall-low-requires
+lower_fall-low-requires c =
     let p = All-get_or (λ t. t.position ≤ c.args.line.last) c.args.touches.now (c.loop-i.i - 1) none (omega arith) c.requires.sound.on_line.within in
     (c.requires.sound.limits.slope_high, omega (arith, c.requires.sound.limits.last_high))
 
@@ -33,11 +33,11 @@ loop-i-preserved c =
     let back : c.loop-i.i - 1 + 1 ≡ c.loop-i.i = omega arith in
     let step = fall_low c.args.line ts c.requires.sound i none (omega arith) in
     let next : lowest (fall c.args.line.slope) (drop (c.loop-i.i - 1 + 1) c.args.touches.now) ≡ lowest (fall c.args.line.slope) (drop c.loop-i.i c.args.touches.now) = ap (λ n. lowest (fall slope) (drop n ts)) back in
-    let low : to_z w32 (of_z w32 c.lower-fall-low.result) ≡ lowest (fall c.args.line.slope) (drop (c.loop-i.i - 1) c.args.touches.now) =
-    omega (arith, ints, clamps, step, next, c.lower-fall-low.ensures, c.loop-i.invariant.0) in (
+    let low : to_z w32 (of_z w32 c.lower_fall-low.result) ≡ lowest (fall c.args.line.slope) (drop (c.loop-i.i - 1) c.args.touches.now) =
+    omega (arith, ints, clamps, step, next, c.lower_fall-low.ensures, c.loop-i.invariant.0) in (
       low,
       λ k l m. ⊎_elim
-          (λ e. ap (λ n. get_or (set c.loop-i.falls i (to_z w32 (of_z w32 c.lower-fall-low.result))) n (pos 0)) e
+          (λ e. ap (λ n. get_or (set c.loop-i.falls i (to_z w32 (of_z w32 c.lower_fall-low.result))) n (pos 0)) e
           ∙ get_or-set_same c.loop-i.falls i _ (pos 0) (omega arith) ∙ low ∙ ap (λ n. lowest (fall slope) (drop n ts)) (sym e))
           (λ n. get_or-set_other c.loop-i.falls i k _ (pos 0) n ∙ c.loop-i.invariant.1 k (omega arith) m)
           (cases_eq k (c.loop-i.i - 1)),

@@ -6,5 +6,5 @@ use Rattle.envelope.proofs.looks.highest_summit.Goals as goal
 
 pub returns : goal.returns
 returns c =
-    c.first-highest.ensures.is ∙ ap (picked (λ (s : Summit). s.cap)) c.gaps-of.ensures.rest
+    c.first_highest.ensures.is ∙ ap (picked (λ (s : Summit). s.cap)) c.gaps_of.ensures.rest
     ∙ highest_is c.args.line c.args.touches.now c.requires.sound

@@ -5,14 +5,14 @@ use Rattle.caps.proofs.Figures.{figures}
 use Rattle.envelope.proofs.Views.{some_touched, look_is, none_is}
 use Rattle.envelope.proofs.looks.look.Goals as goal
 
-pub highest-summit-summit-requires : goal.highest-summit-summit-requires
-highest-summit-summit-requires c = record { sound = c.requires; some = some_touched c.args.touches.now c.in-Some.floor c.in-Some.ensures }
+pub highest_summit-summit-requires : goal.highest_summit-summit-requires
+highest_summit-summit-requires c = record { sound = c.requires; some = some_touched c.args.touches.now c.in-Some.floor c.in-Some.ensures }
 
 pub returns-in-Some : goal.returns-in-Some
 returns-in-Some c =
-    let b : to_z w32 (of_z w32 c.over-floor.result) ≡ c.over-floor.result = omega (arith, ints, c.over-floor.type-inv) in
+    let b : to_z w32 (of_z w32 c.over_floor.result) ≡ c.over_floor.result = omega (arith, ints, c.over_floor.type_inv) in
     record {
-      is = look_is c.args.line c.args.touches.now c.in-Some.floor _ c.highest-summit-summit.result c.requires c.in-Some.ensures c.highest-summit-summit.ensures (b ∙ c.over-floor.ensures);
+      is = look_is c.args.line c.args.touches.now c.in-Some.floor _ c.highest_summit-summit.result c.requires c.in-Some.ensures c.highest_summit-summit.ensures (b ∙ c.over_floor.ensures);
       caps = laws_of_caps;
       figures = figures;
     }

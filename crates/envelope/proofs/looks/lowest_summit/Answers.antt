@@ -10,6 +10,6 @@ pub returns : goal.returns
 returns c =
     let f = c.ranges.bound in
     let back : to_z w32 (of_z w32 c.args.bound) ≡ c.args.bound = omega (arith, ints) in
-    c.first-above.ensures.is ∙ ap (first_above (λ (s : Summit). s.cap) _) c.gaps-of.ensures.rest
+    c.first_above.ensures.is ∙ ap (first_above (λ (s : Summit). s.cap) _) c.gaps_of.ensures.rest
     ∙ ap (λ z. first_above (λ (s : Summit). s.cap) z (summits c.args.line c.args.touches.now)) back
     ∙ above_is c.args.line c.args.touches.now c.args.bound

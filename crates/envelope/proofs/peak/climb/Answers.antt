@@ -4,8 +4,8 @@ use Rattle.std.proofs.lemmas.Nat.{mul-le}
 use Rattle.terms.specs.Limits.{last_max, slope_max}
 use Rattle.envelope.proofs.peak.climb.Goals as goal
 
-pub overflow-cast-result : goal.overflow-cast-result
-overflow-cast-result c = let m = mul-le c.args.slope c.args.x slope_max last_max (omega arith) (omega arith) in search rules
+pub overflow_cast-result : goal.overflow_cast-result
+overflow_cast-result c = let m = mul-le c.args.slope c.args.x slope_max last_max (omega arith) (omega arith) in search rules
 
 pub returns : goal.returns
 returns c =

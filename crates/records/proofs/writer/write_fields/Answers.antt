@@ -1,7 +1,7 @@
 use Rattle.std.proofs.Common.{◌≡◌, ℕ, ◌+◌, ◌-◌, ◌*◌, ◌/◌, ◌<◌, ◌≤◌, List, ◌++◌, length, get_or, drop, ℤ, pos, sym, refl, ap, ◌∙◌, subst, arith, w32, SFits, rules}
 use Rattle.std.proofs.lemmas.Int.{to_z-of_z}
-use Rattle.fields.specs.Bits.{Field, bits_of, width_of, Stored, Wrote, complement_of}
-use Rattle.fields.proofs.Writes.{wrote_none, wrote_field, wrote_from, wrote_here, wrote_all}
+use Rattle.fields.specs.Bits.{Field, bits_of, width_of, Stored, complement_of}
+use Rattle.fields.proofs.Writes.{Wrote, wrote_none, wrote_field, wrote_from, wrote_here, wrote_all}
 use Rattle.records.specs.Sheet.{fields_of, sheet_with, record_of}
 use Rattle.records.proofs.Sheets.{own_reads, heights_read, width_heights}
 use Rattle.records.proofs.writer.write_fields.Goals as goal

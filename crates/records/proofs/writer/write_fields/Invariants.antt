@@ -1,5 +1,6 @@
 use Rattle.std.proofs.Common.{ℕ, ◌+◌, ◌*◌, ◌<◌, get_or}
-use Rattle.fields.specs.Bits.{bits_of, Wrote}
+use Rattle.fields.specs.Bits.{bits_of}
+use Rattle.fields.proofs.Writes.{Wrote}
 use Rattle.records.specs.Sheet.{fields_of, sheet_with}
 use Rattle.records.proofs.writer.write_fields.Given as goal
 

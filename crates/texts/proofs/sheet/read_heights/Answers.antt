@@ -12,8 +12,8 @@ loop-word-preserved c =
     let h : ℤ = c.in-Some-height.height in
     let later : List (List ℕ) = words c.in-Some.after.now in
     let f : SFits w32 h = search rules in
-    let items : vec_items c.push.new.self ≡ hs ++ (h ∷ []) = c.in_ok-push.ensures.items ∙ ap (λ (x : ℤ). hs ++ (x ∷ [])) (to_z-of_z w32 h f) in
-    let long : vec_len c.push.new.self ≡ n + 1 = c.in_ok-push.ensures.len in
+    let items : vec_items c.push.new.self ≡ hs ++ (h ∷ []) = c.in_ok-push-in-Some-height.ensures.items ∙ ap (λ (x : ℤ). hs ++ (x ∷ [])) (to_z-of_z w32 h f) in
+    let long : vec_len c.push.new.self ≡ n + 1 = c.in_ok-push-in-Some-height.ensures.len in
     c.loop-word.invariant
     ∙ ap (λ us. onto hs (heights_said n us)) c.in-Some.ensures.value
     ∙ said_more hs n c.in-Some.word.now later h (sym c.in-Some-height.ensures)

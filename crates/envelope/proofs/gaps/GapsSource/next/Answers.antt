@@ -22,15 +22,15 @@ lower m l x f g e =
     let c : m ≡ int_min l x = e ∙ ap (λ z. int_min z x) (back l f) in
     back m (omega (arith, ints, clamps)) ∙ c
 
-pub overflow-add-self-in-loop-self : goal.overflow-add-self-in-loop-self
-overflow-add-self-in-loop-self c =
+pub overflow_add-self-in-loop-self : goal.overflow_add-self-in-loop-self
+overflow_add-self-in-loop-self c =
     let w = c.loop-self.invariant.0 in
     let l = w.sound.limits.last_high in
     let p = t_within w c.loop-self-test.true none in
     search rules
 
-pub lower-rise-self-requires : goal.lower-rise-self-requires
-lower-rise-self-requires c =
+pub lower_rise-self-requires : goal.lower_rise-self-requires
+lower_rise-self-requires c =
     let w = c.loop-self.invariant.0 in
     (w.sound.limits.slope_high, omega (arith, w.sound.limits.last_high, t_within w c.loop-self-test.true none))
 
@@ -57,8 +57,8 @@ returns-then-at-eq0 c =
       item = ap Some is ∙ sym (ap head e);
       rest = sym (ap tail e);
       sound = walking_on w n none _
-          (lower c.lower-rise-self.result s.left (rise s.line.slope (get_or s.touches.now s.at none)) (left_fits w)
-          (omega (arith, t_low w n none)) c.lower-rise-self.ensures);
+          (lower c.lower_rise-self.result s.left (rise s.line.slope (get_or s.touches.now s.at none)) (left_fits w)
+          (omega (arith, t_low w n none)) c.lower_rise-self.ensures);
     }
 
 pub between-requires : goal.between-requires
@@ -89,8 +89,8 @@ returns-then-from-touch c =
       item = ap Some is ∙ sym (ap head e);
       rest = sym (ap tail e);
       sound = walking_on w n none _
-          (lower c.lower-rise-self.result s.left (rise s.line.slope (get_or s.touches.now s.at none)) (left_fits w)
-          (omega (arith, t_low w n none)) c.lower-rise-self.ensures);
+          (lower c.lower_rise-self.result s.left (rise s.line.slope (get_or s.touches.now s.at none)) (left_fits w)
+          (omega (arith, t_low w n none)) c.lower_rise-self.ensures);
     }
 
 pub loop-self-preserved : goal.loop-self-preserved
@@ -100,8 +100,8 @@ loop-self-preserved c =
     let n = c.loop-self-test.true in
     let e = c.loop-self.invariant.1 ∙ summits_skip w n none c.if-from-touch.false in (
       walking_on w n none _
-          (lower c.lower-rise-self.result s.left (rise s.line.slope (get_or s.touches.now s.at none)) (left_fits w)
-          (omega (arith, t_low w n none)) c.lower-rise-self.ensures),
+          (lower c.lower_rise-self.result s.left (rise s.line.slope (get_or s.touches.now s.at none)) (left_fits w)
+          (omega (arith, t_low w n none)) c.lower_rise-self.ensures),
       e,
     )
 
@@ -114,8 +114,8 @@ strip-summit-requires c =
     let a = back s.left (omega arith) in
     record { limits = w.sound.limits; line = omega (arith, ints) }
 
-pub overflow-add-self : goal.overflow-add-self
-overflow-add-self c = let l = c.loop-self.invariant.0.sound.limits.last_high in search rules
+pub overflow_add-self : goal.overflow_add-self
+overflow_add-self c = let l = c.loop-self.invariant.0.sound.limits.last_high in search rules
 
 pub returns : goal.returns
 returns c =

@@ -4,20 +4,20 @@ use Rattle.std.proofs.lemmas.List.FromFn.{length-map-range_with_len, get_or-map-
 use Rattle.records.specs.Sheet.{height_of}
 use Rattle.records.proofs.packed.PackedHeights.height.Goals as goal
 
-pub overflow-mul-position : goal.overflow-mul-position
-overflow-mul-position c =
+pub overflow_mul-position : goal.overflow_mul-position
+overflow_mul-position c =
     let e = length-map-range_with_len (height_of c.args.self.now.bytes.now) 0 c.args.self.now.count in
     let f = c.args.self.now.few in
     record { fits = omega arith }
 
-pub overflow-add-position : goal.overflow-add-position
-overflow-add-position c =
+pub overflow_add-position : goal.overflow_add-position
+overflow_add-position c =
     let e = length-map-range_with_len (height_of c.args.self.now.bytes.now) 0 c.args.self.now.count in
     let f = c.args.self.now.few in
     record { fits = omega arith }
 
-pub signed-field-requires : goal.signed-field-requires
-signed-field-requires c =
+pub signed_field-requires : goal.signed_field-requires
+signed_field-requires c =
     let e = length-map-range_with_len (height_of c.args.self.now.bytes.now) 0 c.args.self.now.count in
     let f = c.args.self.now.few in
     let h = c.args.self.now.held in
@@ -30,4 +30,4 @@ returns c =
     let e = length-map-range_with_len (height_of b) 0 n in
     let l : c.args.position < n = omega arith in
     let g = get_or-map-range_with_len (height_of b) 0 n c.args.position c.args.position (pos 0) l (omega arith) in
-    to_z-of_z w32 c.signed-field.result (search rules) ∙ c.signed-field.ensures ∙ sym g
+    to_z-of_z w32 c.signed_field.result (search rules) ∙ c.signed_field.ensures ∙ sym g
