@@ -34,14 +34,14 @@ module _ (m s : ℕ) (hs : List ℤ) (lm : m < 65536) (ls : s < 65536) (lh : len
 pub loop-p-init : goal.loop-p-init
 loop-p-init c = (
   wrote_here _ 44 c.args.buf.now _ (head c.args.slope c.args.slack c.args.heights.now (omega arith) (omega arith) (omega arith) c.args.buf.now _ _ _ c.put.ensures.stored c.put-2.ensures.stored c.put-3.ensures.stored),
-  (λ i. (c.type-inv.buf i).fits),
+  (λ i. (c.type_inv.buf i).fits),
 )
 
 pub loop-p-preserved : goal.loop-p-preserved
 loop-p-preserved c =
     let f : SFits w32 (get_or c.args.heights.now c.loop-p.p (pos 0)) = search rules in (
-      next c.args.slope c.args.slack c.args.heights.now (omega arith) (omega arith) (omega arith) _ _ _ c.loop-p.p (omega arith) c.loop-p.invariant.0 (simp to_z-of_z at c.put-signed.ensures),
-      (λ i. (c.type-inv.buf i).fits),
+      next c.args.slope c.args.slack c.args.heights.now (omega arith) (omega arith) (omega arith) _ _ _ c.loop-p.p (omega arith) c.loop-p.invariant.0 (simp to_z-of_z at c.put_signed.ensures),
+      (λ i. (c.type_inv.buf i).fits),
     )
 
 pub returns : goal.returns

@@ -9,6 +9,6 @@ use Rattle.logs.proofs.log.Log.high_aim.Goals as goal
 pub returns : goal.returns
 returns c =
     let l = c.args.self.now in
-    let open-now = sym (c.if-is-settled.ensures ∙ ap (λ (o : Option Outlook). settled_by o l.notes.tolerance) c.look-seen.ensures) in
-    let r = high_open (state_of l) (log_sound l).on_line open-now c.high-place.result (c.high-place.ensures ∙ ap place_seen c.look-seen.ensures) in
+    let open-now = sym (c.if-is_settled.ensures ∙ ap (λ (o : Option Outlook). settled_by o l.notes.tolerance) c.look-seen.ensures) in
+    let r = high_open (state_of l) (log_sound l).on_line open-now c.high_place.result (c.high_place.ensures ∙ ap place_seen c.look-seen.ensures) in
     record { is = r.0; free = r.1 }

@@ -2,12 +2,12 @@ use Rattle.std.proofs.Common.{◌∙◌, arith}
 use Rattle.logs.proofs.Tables.{count_below, state_then, last_then, slope_then, slack_then, rises_then, near_then, low_then}
 use Rattle.logs.proofs.log.Log.insert.Goals as goal
 
-pub invariant-of-self : goal.invariant-of-self
-invariant-of-self c =
+pub invariant_of-self : goal.invariant_of-self
+invariant_of-self c =
     let l = c.args.self.now in
     let u = c.args.touch in
-    let n = c.put-in.new.self in
-    let put = c.put-in.ensures in
+    let n = c.put_in.new.self in
+    let put = c.put_in.ensures in
     let below = count_below l c.requires.room in
     let room = l.room in (
       omega (arith, put.count, put.limit),
@@ -36,4 +36,4 @@ invariant-of-self c =
     )
 
 pub returns : goal.returns
-returns c = state_then c.args.self.now c.args.touch c.put-in.new.self c.put-in.ensures
+returns c = state_then c.args.self.now c.args.touch c.put_in.new.self c.put_in.ensures
