@@ -4,5 +4,5 @@ use Rattle.sheets.proofs.pack.pack.Goals as goal
 
 pub returns : goal.returns
 returns c =
-    let all : length c.fill.new.bytes ≡ c.in-ok-bytes.bytes.len = search rules in
+    let all : length c.fill.new.bytes ≡ c.in_ok-bytes.bytes.len = search rules in
     take_at _ _ _ all ∙ c.fill.ensures

@@ -10,10 +10,10 @@ pub loop-position-preserved : goal.loop-position-preserved
 loop-position-preserved g c =
     let m : Meaning = g.G.Gauge.meaning c.args.gauge.now in
     let n : ℕ = c.loop-position.position in
-    let x : c.entry-of.result ≡ entry (m.reading n) = c.entry-of.ensures ∙ ap entry c.read.ensures in
-    let f : SFits w32 c.entry-of.result = search rules in
-    pushed (to_z w32 (of_z w32 c.entry-of.result) ∷ []) c.loop-position.invariant c.in-ok-push.was c.push.ensures.items
-    ∙ ap (λ h. entries m n ++ (h ∷ [])) (to_z-of_z w32 c.entry-of.result f ∙ x)
+    let x : c.entry_of.result ≡ entry (m.reading n) = c.entry_of.ensures ∙ ap entry c.read.ensures in
+    let f : SFits w32 c.entry_of.result = search rules in
+    pushed (to_z w32 (of_z w32 c.entry_of.result) ∷ []) c.loop-position.invariant c.in_ok-push.was c.push.ensures.items
+    ∙ ap (λ h. entries m n ++ (h ∷ [])) (to_z-of_z w32 c.entry_of.result f ∙ x)
     ∙ sym (map-range_with_len_more (λ p. entry (m.reading p)) 0 n n (omega arith))
 
 pub returns : goal.returns

@@ -14,8 +14,8 @@ returns c =
     let slack : c.slack.result ≡ slack_of b = c.slack.ensures ∙ ap slack_of e in
     let heights = c.requires.heights in
     let sheet : sheet_with c.slope.result c.slack.result c.args.heights.now ≡ sheet_with (slope_of b) (slack_of b) (heights_of b (last_of b + 1)) = cc in
-    let bytes : Bytes b = λ i. (c.type-inv.bytes i).fits in
+    let bytes : Bytes b = λ i. (c.type_inv.bytes i).fits in
     record {
-      taken = c.is-ok.ensures.value ∙ ap is_ok (c.write.ensures.answer ∙ ap (λ s. write_verdict s (length old)) sheet ∙ answered b c.args.name bytes c.requires.accepted old c.requires.room);
+      taken = c.is_ok.ensures.value ∙ ap is_ok (c.write.ensures.answer ∙ ap (λ s. write_verdict s (length old)) sheet ∙ answered b c.args.name bytes c.requires.accepted old c.requires.room);
       same = c.write.ensures.bytes ∙ ap (λ s. write_leaves s old) sheet ∙ left b c.args.name bytes c.requires.accepted old c.requires.room;
     }
