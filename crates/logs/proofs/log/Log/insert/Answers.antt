@@ -9,31 +9,18 @@ invariant_of-self c =
     let n = c.put_in.new.self in
     let put = c.put_in.ensures in
     let below = count_below l c.requires.room in
-    let room = l.room in (
-      omega (arith, put.count, put.limit),
-      (
-        omega (arith, put.limit),
-        (
-          put.long ∙ l.long,
-          (
-            last_then l u n put,
-            (
-              slope_then l u n put,
-              (
-                slack_then l u n put,
-                (
-                  rises_then l u n put c.requires.free c.requires.height,
-                  (
-                    near_then l u n put c.requires.free c.requires.height,
-                    (low_then l u n put c.requires.free c.requires.height, tt),
-                  ),
-                ),
-              ),
-            ),
-          ),
-        ),
-      ),
-    )
+    let room = l.room in
+    record {
+      within = omega (arith, put.count, put.limit);
+      room = omega (arith, put.limit);
+      long = put.long ∙ l.long;
+      lasts = last_then l u n put;
+      slopes = slope_then l u n put;
+      slacks = slack_then l u n put;
+      rises = rises_then l u n put c.requires.free c.requires.height;
+      near = near_then l u n put c.requires.free c.requires.height;
+      low = low_then l u n put c.requires.free c.requires.height;
+    }
 
 pub returns : goal.returns
 returns c = state_then c.args.self.now c.args.touch c.put_in.new.self c.put_in.ensures
