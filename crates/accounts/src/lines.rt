@@ -4,11 +4,11 @@ ghost use Rattle.accounts.specs.Lines.{and_lines, figures_line, gauge_line, spot
 
 use gauges::gauge::Gauge;
 use sheets::summary::{Spot, summarize};
-use std::fmt;
+use std::alloc::AllocError;
 use std::fmt::Write;
 
 // The line of the lowest or the highest height.
-fn put_spot(out: &mut String, which: &str, spot: Option<Spot>) -> fmt::Result
+fn put_spot(out: &mut String, which: &str, spot: Option<Spot>) -> Result<(), AllocError>
     ensures { OnOk result (string_bytes out.new ≡ string_bytes out.old ++ spot_line which.now spot) }
 {
     let Some(Spot { position, height }) = spot else {
@@ -20,40 +20,40 @@ fn put_spot(out: &mut String, which: &str, spot: Option<Spot>) -> fmt::Result
 }
 
 // How many of the positions are readable.
-fn put_readable(out: &mut String, readable: u32, positions: u32) -> fmt::Result
+fn put_readable(out: &mut String, readable: u32, positions: u32) -> Result<(), AllocError>
     ensures { OnOk result (string_bytes out.new ≡ string_bytes out.old ++ readable_line readable positions) }
 {
     writeln!(out, "readable positions {readable} of {positions}")
 }
 
 // The record's length.
-pub(crate) fn put_length(out: &mut String, length: usize) -> fmt::Result
+pub(crate) fn put_length(out: &mut String, length: usize) -> Result<(), AllocError>
     ensures { OnOk result (string_bytes out.new ≡ string_bytes out.old ++ length_line length) }
 {
     writeln!(out, "record of {length} bytes")
 }
 
 // That packing again gave the same bytes.
-pub(crate) fn put_again(out: &mut String, length: usize) -> fmt::Result
+pub(crate) fn put_again(out: &mut String, length: usize) -> Result<(), AllocError>
     ensures { OnOk result (string_bytes out.new ≡ string_bytes out.old ++ again_line length) }
 {
     writeln!(out, "packed again: the same {length} bytes")
 }
 
 // That it gave others; no accepted record does.
-pub(crate) fn put_other(out: &mut String) -> fmt::Result {
+pub(crate) fn put_other(out: &mut String) -> Result<(), AllocError> {
     writeln!(out, "packed again: other bytes")
 }
 
 // Last position, slope and slack.
-fn put_figures(out: &mut String, last: u32, slope: u32, slack: u32) -> fmt::Result
+fn put_figures(out: &mut String, last: u32, slope: u32, slack: u32) -> Result<(), AllocError>
     ensures { OnOk result (string_bytes out.new ≡ string_bytes out.old ++ figures_line last slope slack) }
 {
     writeln!(out, "last position {last}, slope {slope}, slack {slack}")
 }
 
 // Those of any gauge.
-fn put_line<G: Gauge>(out: &mut String, gauge: &G) -> fmt::Result
+fn put_line<G: Gauge>(out: &mut String, gauge: &G) -> Result<(), AllocError>
     ensures { OnOk result (string_bytes out.new ≡ string_bytes out.old ++ gauge_line (G.Gauge.meaning gauge.now)) }
 {
     put_figures(out, gauge.last(), gauge.slope(), gauge.slack())?;
@@ -61,7 +61,7 @@ fn put_line<G: Gauge>(out: &mut String, gauge: &G) -> fmt::Result
 }
 
 // The figures, the number of readable positions, the lowest and the highest height of any gauge.
-pub(crate) fn put_summary<G: Gauge>(out: &mut String, gauge: &G) -> fmt::Result
+pub(crate) fn put_summary<G: Gauge>(out: &mut String, gauge: &G) -> Result<(), AllocError>
     ensures { OnOk result (string_bytes out.new ≡ and_lines (string_bytes out.old) (told_lines (G.Gauge.meaning gauge.now))) }
 {
     put_line(out, gauge)?;
@@ -73,7 +73,7 @@ pub(crate) fn put_summary<G: Gauge>(out: &mut String, gauge: &G) -> fmt::Result
 }
 
 // The reading of one position.
-fn put_reading<G: Gauge>(out: &mut String, gauge: &G, position: u32) -> fmt::Result
+fn put_reading<G: Gauge>(out: &mut String, gauge: &G, position: u32) -> Result<(), AllocError>
     ensures { OnOk result (string_bytes out.new ≡ string_bytes out.old ++ reading_line (G.Gauge.meaning gauge.now) position) }
 {
     match gauge.read(position) {
@@ -83,7 +83,7 @@ fn put_reading<G: Gauge>(out: &mut String, gauge: &G, position: u32) -> fmt::Res
 }
 
 // The figures of any gauge, and its readings at the first, the middle, the last position and one beyond.
-pub(crate) fn put_gauge<G: Gauge>(out: &mut String, gauge: &G) -> fmt::Result
+pub(crate) fn put_gauge<G: Gauge>(out: &mut String, gauge: &G) -> Result<(), AllocError>
     ensures { OnOk result (string_bytes out.new ≡ and_lines (string_bytes out.old) (stack_lines (G.Gauge.meaning gauge.now))) }
 {
     put_line(out, gauge)?;

@@ -97,8 +97,8 @@ fn is_certified(
     Ok(
         length_of(certify(log, &mut buffer)) == answer
             && naive_texts::certificate::certify(heap, &survey, &mut other)? == answer
-            && buffer == bytes
-            && other == bytes,
+            && buffer.as_slice() == bytes
+            && other.as_slice() == bytes,
     )
 }
 

@@ -19,7 +19,7 @@ pub fn read_tolerance(mut args: Args) -> anyhow::Result<u32> {
     let _ = args.next();
     match (args.next(), args.next()) {
         (Some(word), None) => Ok(word.as_str().parse::<u32>()?),
-        _ => Err(USAGE.into()),
+        _ => Err(anyhow!(USAGE)),
     }
 }
 

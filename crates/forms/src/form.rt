@@ -2,14 +2,18 @@
 use crate::units::Place;
 use caps::{Line, Touch};
 use logs::log::Log;
-use std::alloc::Global;
-use std::fmt;
+use std::alloc::{AllocError, Global};
 use std::fmt::Write;
 use stretches::most::most_touches;
 use stretches::spans::{Span, spans};
 
 // A touch as it is made, and the ceiling after it.
-pub(crate) fn put_touch(out: &mut String, number: u32, touch: Touch, ceiling: i32) -> fmt::Result {
+pub(crate) fn put_touch(
+    out: &mut String,
+    number: u32,
+    touch: Touch,
+    ceiling: i32,
+) -> Result<(), AllocError> {
     let place = Place(touch.position);
     let height = touch.height;
     writeln!(
@@ -19,7 +23,7 @@ pub(crate) fn put_touch(out: &mut String, number: u32, touch: Touch, ceiling: i3
 }
 
 // How high the glass can stand in a gap. A gap that ends with the line is the strip past the last touch.
-fn put_span(out: &mut String, line: Line, span: Span) -> fmt::Result {
+fn put_span(out: &mut String, line: Line, span: Span) -> Result<(), AllocError> {
     let from = Place(span.from);
     let to = Place(span.to);
     let cap = span.summit.cap;
@@ -36,7 +40,7 @@ fn put_span(out: &mut String, line: Line, span: Span) -> fmt::Result {
 }
 
 // Floor and ceiling.
-fn put_bounds(out: &mut String, log: &Log) -> fmt::Result {
+fn put_bounds(out: &mut String, log: &Log) -> Result<(), AllocError> {
     match log.look() {
         Some(seen) => {
             let floor = seen.floor.height;

@@ -40,13 +40,13 @@ fn number_after(line: &[u8], verb: &[u8]) -> Option<u32> {
 
 // The call that a line says; none where it is no command.
 pub fn call(line: &[u8]) -> Option<Call> {
-    if line == b"high" {
+    if line == b"high".as_slice() {
         return Some(Call::High);
     }
-    if line == b"left" {
+    if line == b"left".as_slice() {
         return Some(Call::Left);
     }
-    if line == b"ask" {
+    if line == b"ask".as_slice() {
         return Some(Call::Ask);
     }
     if let Some(position) = number_after(line, b"at ") {

@@ -6,14 +6,18 @@ ghost use Rattle.policies.specs.Lines.{touch_text, which_text, ends_text, summit
 use crate::units::{Height, Place};
 use caps::{Outlook, Summit, Touch};
 use logs::log::Log;
-use std::alloc::Global;
-use std::fmt;
+use std::alloc::{AllocError, Global};
 use std::fmt::Write;
 use stretches::most::most_touches;
 use stretches::spans::{Span, spans};
 
 // A touch as it is made, and the ceiling after it.
-pub(crate) fn put_touch(out: &mut String, number: u16, touch: Touch, ceiling: i32) -> fmt::Result
+pub(crate) fn put_touch(
+    out: &mut String,
+    number: u16,
+    touch: Touch,
+    ceiling: i32,
+) -> Result<(), AllocError>
     ensures { OnOk result (string_bytes out.new ≡ string_bytes out.old ++ touch_text number touch ceiling) }
 {
     let place = Place(touch.position);
@@ -37,7 +41,7 @@ fn kind(last: u16, to: u16) -> &'static str
 }
 
 // The kind and the ends of a gap.
-fn put_ends(out: &mut String, which: &str, span: Span) -> fmt::Result
+fn put_ends(out: &mut String, which: &str, span: Span) -> Result<(), AllocError>
     ensures { OnOk result (string_bytes out.new ≡ string_bytes out.old ++ ends_text which.now span) }
 {
     let from = Place(span.from);
@@ -46,7 +50,7 @@ fn put_ends(out: &mut String, which: &str, span: Span) -> fmt::Result
 }
 
 // Its largest cap, and where it stands first.
-fn put_summit(out: &mut String, summit: Summit) -> fmt::Result
+fn put_summit(out: &mut String, summit: Summit) -> Result<(), AllocError>
     ensures { OnOk result (string_bytes out.new ≡ string_bytes out.old ++ summit_text summit) }
 {
     let cap = Height(summit.cap);
@@ -55,7 +59,7 @@ fn put_summit(out: &mut String, summit: Summit) -> fmt::Result
 }
 
 // How high the glass can stand in a gap.
-fn put_span(out: &mut String, last: u16, span: Span) -> fmt::Result
+fn put_span(out: &mut String, last: u16, span: Span) -> Result<(), AllocError>
     ensures { OnOk result (string_bytes out.new ≡ string_bytes out.old ++ span_text last span) }
 {
     put_ends(out, kind(last, span.to), span)?;
@@ -63,7 +67,7 @@ fn put_span(out: &mut String, last: u16, span: Span) -> fmt::Result
 }
 
 // The same of each gap.
-fn put_spans(out: &mut String, last: u16, spans: &[Span]) -> fmt::Result
+fn put_spans(out: &mut String, last: u16, spans: &[Span]) -> Result<(), AllocError>
     ensures { OnOk result (string_bytes out.new ≡ string_bytes out.old ++ spans_text last spans.now) }
 {
     for span in spans {
@@ -73,14 +77,14 @@ fn put_spans(out: &mut String, last: u16, spans: &[Span]) -> fmt::Result
 }
 
 // That there is neither floor nor ceiling.
-fn put_nothing(out: &mut String) -> fmt::Result
+fn put_nothing(out: &mut String) -> Result<(), AllocError>
     ensures { OnOk result (string_bytes out.new ≡ string_bytes out.old ++ codes "nothing is touched\n") }
 {
     write!(out, "nothing is touched\n")
 }
 
 // Floor and ceiling.
-fn put_bounds(out: &mut String, seen: Option<Outlook>) -> fmt::Result
+fn put_bounds(out: &mut String, seen: Option<Outlook>) -> Result<(), AllocError>
     ensures { OnOk result (string_bytes out.new ≡ string_bytes out.old ++ bounds_text seen) }
 {
     match seen {
@@ -95,7 +99,7 @@ fn put_bounds(out: &mut String, seen: Option<Outlook>) -> fmt::Result
 }
 
 // The touches beside the most that a search can make.
-fn put_tally(out: &mut String, touches: u16, most: u32) -> fmt::Result
+fn put_tally(out: &mut String, touches: u16, most: u32) -> Result<(), AllocError>
     ensures { OnOk result (string_bytes out.new ≡ string_bytes out.old ++ tally_text touches most) }
 {
     write!(out, "touches {touches}, by the rules at most {most}\n")

@@ -10,12 +10,16 @@ use bed::survey::Survey;
 use caps::{Outlook, Touch};
 use gauges::gauge::Gauge;
 use logs::log::Log;
-use std::alloc::Global;
-use std::fmt;
+use std::alloc::{AllocError, Global};
 use terms::refusal::Refusal;
 
 // The line of the touch of that number.
-fn put_seen(out: &mut String, number: u16, touch: Touch, seen: Option<Outlook>) -> fmt::Result
+fn put_seen(
+    out: &mut String,
+    number: u16,
+    touch: Touch,
+    seen: Option<Outlook>,
+) -> Result<(), AllocError>
     ensures { OnOk result (string_bytes out.new ≡ string_bytes out.old ++ seen_text number touch seen) }
 {
     match seen {

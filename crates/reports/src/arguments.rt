@@ -1,6 +1,7 @@
 // The words after the program's name.
 use crate::commands::Command;
 use crate::stack::{Beam, Layers};
+use anyhow::anyhow;
 use std::env::Args;
 
 const USAGE: &str =
@@ -10,7 +11,7 @@ const USAGE: &str =
 fn word(args: &mut Args) -> anyhow::Result<String> {
     match args.next() {
         Some(word) => Ok(word),
-        None => Err(USAGE.into()),
+        None => Err(anyhow!(USAGE)),
     }
 }
 
@@ -55,7 +56,7 @@ fn read_layers(args: &mut Args) -> anyhow::Result<Layers> {
         word = args.next();
     }
     match word {
-        Some(_) => Err(USAGE.into()),
+        Some(_) => Err(anyhow!(USAGE)),
         None => Ok(layers),
     }
 }
@@ -70,10 +71,10 @@ pub fn read_command(mut args: Args) -> anyhow::Result<Command> {
         "show" => Ok(Command::Show { path, layers }),
         "pack" => {
             if layers.beam.is_some() || layers.step.is_some() {
-                return Err(USAGE.into());
+                return Err(anyhow!(USAGE));
             }
             Ok(Command::Pack { path })
         }
-        _ => Err(USAGE.into()),
+        _ => Err(anyhow!(USAGE)),
     }
 }

@@ -26,7 +26,7 @@ pub enum Command {
 
 // The message of a refused record or sheet.
 fn refused(rt: &HostRuntime, refusal: Refusal) -> anyhow::Result<anyhow::Error> {
-    Ok(format!(in rt.alloc(); "refused with {refusal}")?.into())
+    Ok(anyhow!(format!(in rt.alloc(); "refused with {refusal}")?))
 }
 
 // The bytes of a file, read to the bound of records.

@@ -6,12 +6,11 @@ use gauges::gauge::Gauge;
 use records::record::Record;
 use sheets::repack::packs_again;
 use sheets::summary::{Spot, summarize};
-use std::alloc::Global;
-use std::fmt;
+use std::alloc::{AllocError, Global};
 use std::fmt::Write;
 
 // The line of the lowest or the highest height.
-fn put_spot(out: &mut String, which: &str, spot: Option<Spot>) -> fmt::Result {
+fn put_spot(out: &mut String, which: &str, spot: Option<Spot>) -> Result<(), AllocError> {
     match spot {
         Some(Spot { position, height }) => {
             writeln!(out, "{which} height {height} at position {position}")
@@ -21,7 +20,7 @@ fn put_spot(out: &mut String, which: &str, spot: Option<Spot>) -> fmt::Result {
 }
 
 // Last position, slope and slack of any gauge.
-pub(crate) fn put_line<G: Gauge>(out: &mut String, gauge: &G) -> fmt::Result {
+pub(crate) fn put_line<G: Gauge>(out: &mut String, gauge: &G) -> Result<(), AllocError> {
     let last = gauge.last();
     let slope = gauge.slope();
     let slack = gauge.slack();
@@ -29,7 +28,7 @@ pub(crate) fn put_line<G: Gauge>(out: &mut String, gauge: &G) -> fmt::Result {
 }
 
 // The line, the number of readable positions, the lowest and the highest height of any gauge.
-fn put_summary<G: Gauge>(out: &mut String, gauge: &G) -> fmt::Result {
+fn put_summary<G: Gauge>(out: &mut String, gauge: &G) -> Result<(), AllocError> {
     put_line(out, gauge)?;
     let summary = summarize(gauge);
     let readable = summary.readable;

@@ -5,6 +5,7 @@ use gauges::tent::Tent;
 use layers::coarse::Coarse;
 use layers::step::Step;
 use layers::sum::Sum;
+use std::alloc::AllocError;
 use std::fmt;
 use std::fmt::Write;
 use terms::refusal::Refusal;
@@ -46,8 +47,14 @@ impl From<fmt::Error> for NoStack {
     }
 }
 
+impl From<AllocError> for NoStack {
+    fn from(_error: AllocError) -> NoStack {
+        NoStack::NotWritten
+    }
+}
+
 // The reading of one position.
-fn put_reading<G: Gauge>(out: &mut String, gauge: &G, position: u32) -> fmt::Result {
+fn put_reading<G: Gauge>(out: &mut String, gauge: &G, position: u32) -> Result<(), AllocError> {
     match gauge.read(position) {
         Ok(height) => writeln!(out, "position {position}: height {height}"),
         Err(fault) => writeln!(out, "position {position}: {fault}"),
@@ -55,7 +62,7 @@ fn put_reading<G: Gauge>(out: &mut String, gauge: &G, position: u32) -> fmt::Res
 }
 
 // Last, slope and slack of any gauge, and its readings at the first, the middle, the last position and one beyond.
-fn put_gauge<G: Gauge>(out: &mut String, gauge: &G) -> fmt::Result {
+fn put_gauge<G: Gauge>(out: &mut String, gauge: &G) -> Result<(), AllocError> {
     put_line(out, gauge)?;
     let last = gauge.last();
     put_reading(out, gauge, 0)?;

@@ -12,7 +12,7 @@ use gauges::tent::Tent;
 use layers::coarse::Coarse;
 use layers::step::Step;
 use layers::sum::Sum;
-use std::fmt;
+use std::alloc::AllocError;
 use std::fmt::Write;
 use terms::refusal::Refusal;
 
@@ -20,14 +20,14 @@ use terms::refusal::Refusal;
 const BEAM_NAME: u8 = 2;
 
 // The heading of a gauge that is rounded down.
-fn put_step(out: &mut String, size: u32) -> fmt::Result
+fn put_step(out: &mut String, size: u32) -> Result<(), AllocError>
     ensures { OnOk result (string_bytes out.new ≡ string_bytes out.old ++ step_heading size) }
 {
     writeln!(out, "rounded down to steps of {size}:")
 }
 
 // The heading of a gauge under the beam.
-fn put_beam(out: &mut String) -> fmt::Result
+fn put_beam(out: &mut String) -> Result<(), AllocError>
     ensures { OnOk result (string_bytes out.new ≡ string_bytes out.old ++ beam_heading) }
 {
     writeln!(out, "with the bow of the beam added:")

@@ -3,8 +3,8 @@ use Rattle.certificates.proofs.Heads.{HeadFits}
 use Rattle.certificates.proofs.Touches.{all_low, all_written}
 use Rattle.certificates.proofs.writer.write_fields.Goals as goal
 
-pub write-touches-requires : goal.write-touches-requires
-write-touches-requires c =
+pub write_touches-requires : goal.write_touches-requires
+write_touches-requires c =
     let s = c.requires.sound.0 in
     record { fits = (all_low c.args.line.last c.args.touches.now s.limits.last_high s.on_line.within, s.few); room = omega arith }
 
@@ -21,5 +21,5 @@ returns c =
     } in
     all_written c.args.line c.args.tolerance c.args.touches.now c.args.seen fits
     (all_low c.args.line.last c.args.touches.now s.limits.last_high s.on_line.within)
-    c.args.buf.now c.write-head.new.buf c.write-touches.new.buf
-    (λ i. (c.type-inv.buf i).fits) (omega arith) c.write-head.ensures c.write-touches.ensures
+    c.args.buf.now c.write_head.new.buf c.write_touches.new.buf
+    (λ i. (c.type_inv.buf i).fits) (omega arith) c.write_head.ensures c.write_touches.ensures

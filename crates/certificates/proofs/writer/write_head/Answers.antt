@@ -23,4 +23,4 @@ returns c = λ ts e fit.
     (as_value _ _ 44 16 _ _ c.from-4.ensures c.put-4.ensures.stored)
     (as_value _ _ 60 9 _ _ (sym e) c.put-5.ensures.stored)
     (as_value _ _ 69 12 _ _ c.from-5.ensures c.put-6.ensures.stored)
-    c.put-ceiling.ensures
+    c.put_ceiling.ensures

@@ -11,6 +11,6 @@ returns-then-touches-eq0 c = record {
 
 pub returns : goal.returns
 returns c = record {
-  is = rw (all_from_0 c.args.line c.args.touches.now c.if-touches-eq0.false) at c.spans-beside.ensures;
+  is = rw (all_from_0 c.args.line c.args.touches.now c.if-touches-eq0.false) at c.spans_beside.ensures;
   laws = laws_of_spans;
 }

@@ -30,5 +30,5 @@ loop-position-preserved g c =
     let n = c.args.budget in
     let less = below R s k n c.in-Ok.position c.in-Ok.ensures.is inv.0 in (
       omega arith,
-      inv.1 ∙ run_goes_on R s k n c.in-Ok.position c.in-Ok.ensures.is inv.0 c.in-default.field-0 (state_of c.touch.new.log) c.in-default.ensures.answer c.touch.ensures.state,
+      inv.1 ∙ run_goes_on R s k n c.in-Ok.position c.in-Ok.ensures.is inv.0 c.in_default.field-0 (state_of c.touch.new.log) c.in_default.ensures.answer c.touch.ensures.state,
     )

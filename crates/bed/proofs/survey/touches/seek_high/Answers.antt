@@ -11,7 +11,7 @@ pub returns : goal.returns
 returns g c =
     let R = (g.G.Gauge.meaning c.args.gauge.now).reading in
     let s = state_of c.args.log.now in
-    let same = ap (sought R s) c.high-aim-aim.ensures.is ∙ sought_high R s in
+    let same = ap (sought R s) c.high_aim-aim.ensures.is ∙ sought_high R s in
     record {
       answer = c.seek.ensures.answer ∙ ap (λ (o : Outcome (Result Touch Refusal)). o.answer) same;
       state = c.seek.ensures.state ∙ ap (λ (o : Outcome (Result Touch Refusal)). o.after) same;
