@@ -1,5 +1,5 @@
 // A sheet's record in memory of its own.
-ghost use Rattle.std.specs.Prelude.{◌≡◌, ◌+◌, ◌*◌, length, Ok};
+ghost use Rattle.std.specs.Prelude.{◌≡◌, ◌+◌, ◌*◌, length, Ok, OnOk};
 ghost use Rattle.records.specs.Sheet.{sheet_with, record_of};
 ghost use Rattle.records.specs.Verdict.{verdict_of};
 ghost use Rattle.sheets.specs.Packs.{PackedAs};
@@ -45,7 +45,8 @@ fn fill(bytes: &mut [u8], slope: u32, slack: u32, heights: &[i32])
 
 // The bytes of a sheet's record.
 pub fn pack(heap: Global, slope: u32, slack: u32, heights: &[i32]) -> Result<Vec<u8>, NoRecord>
-    ensures { PackedAs slope slack heights.now result }
+    ensures made { PackedAs slope slack heights.now result }
+    ensures lawful { OnOk result (verdict_of (sheet_with slope slack heights.now) ≡ Ok tt) }
 {
     check_sheet(&Lent { heights }, slope, slack)?;
     let mut bytes = Vec::from_elem(heap, 0u8, 6 + 2 * heights.len())?;

@@ -1,5 +1,5 @@
 // Packs again what a record says.
-ghost use Rattle.std.specs.Prelude.{◌≡◌, ℕ, ◌+◌, true, ◌&&◌, length, is_ok, IfOk};
+ghost use Rattle.std.specs.Prelude.{◌≡◌, ℕ, ◌+◌, true, ◌&&◌, length, is_ok, IfOk, Decides};
 ghost use Rattle.std.specs.Str.{bytes_eq};
 ghost use Rattle.records.specs.Sheet.{last_of, heights_of};
 ghost use Rattle.records.specs.Verdict.{record_verdict};
@@ -47,7 +47,8 @@ fn write_again(bytes: &[u8], name: u8, heights: &[i32], again: &mut [u8]) -> boo
 
 // Whether two lists of bytes are the same.
 fn are_same(a: &[u8], b: &[u8]) -> bool
-    ensures { result ≡ bytes_eq a.now b.now }
+    ensures decides { Decides result (a.now ≡ b.now) }
+    ensures is { result ≡ bytes_eq a.now b.now }
 {
     a == b
 }

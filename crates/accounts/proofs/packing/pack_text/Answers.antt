@@ -14,8 +14,8 @@ pub returns-in_err-bytes : goal.returns-in_err-bytes
 returns-in_err-bytes c =
     let p = err_from_is_err_and c.from_residual-in_err-bytes.result c.from_residual-in_err-bytes.ensures.1 in
     subst (PacksText c.args.text.now) (sym p.1)
-    (pack_failed c.args.text.now (figures c.in_ok-sheet.sheet) c.in_ok-sheet.ensures c.deref.result.now _ p.0 c.deref.ensures.value p.2 c.in_err-bytes.ensures)
+    (pack_failed c.args.text.now (figures c.in_ok-sheet.sheet) c.in_ok-sheet.ensures c.deref.result.now _ p.0 c.deref.ensures.value p.2 c.in_err-bytes.ensures.made)
 
 pub returns : goal.returns
 returns c =
-    text_packed c.args.text.now (figures c.in_ok-sheet.sheet) c.in_ok-sheet.ensures c.deref.result.now (vec_items c.in_ok-bytes.bytes) c.deref.ensures.value c.in_ok-bytes.ensures.0 c.in_ok-bytes.ensures.1
+    text_packed c.args.text.now (figures c.in_ok-sheet.sheet) c.in_ok-sheet.ensures c.deref.result.now (vec_items c.in_ok-bytes.bytes) c.deref.ensures.value c.in_ok-bytes.ensures.lawful c.in_ok-bytes.ensures.made

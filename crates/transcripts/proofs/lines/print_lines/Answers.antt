@@ -14,10 +14,10 @@ loop-command-preserved c =
     let come : to_come c.loop-command.command-iterator ≡ _ = c.in-Some.ensures.steps.0 in
     let i = c.loop-command.invariant.0 in
     let n = length-asked o (to_come c.loop-command.command-iterator) rest come in
-    let u = c.count-answers-at.ensures in
-    let t : text_of c.entry-for.result ≡ told_text o (drop c.loop-command.at c.args.answers.now) = c.entry-for.ensures ∙ ap (told_text o) (take_rest c.args.answers.now c.loop-command.at) in (
+    let u = c.count_answers-at.ensures in
+    let t : text_of c.entry_for.result ≡ told_text o (drop c.loop-command.at c.args.answers.now) = c.entry_for.ensures ∙ ap (told_text o) (take_rest c.args.answers.now c.loop-command.at) in (
       omega arith,
-      ap (λ k. string_bytes c.put-entry.new.out ++ lines_told rest (drop (c.loop-command.at + k) c.args.answers.now)) u
-          ∙ text_more (string_bytes c.loop-command.out) (string_bytes c.put-entry.new.out) o (to_come c.loop-command.command-iterator) rest c.args.answers.now c.loop-command.at (text_of c.entry-for.result) come t c.in-ok-put-entry.ensures
+      ap (λ k. string_bytes c.put_entry.new.out ++ lines_told rest (drop (c.loop-command.at + k) c.args.answers.now)) u
+          ∙ text_more (string_bytes c.loop-command.out) (string_bytes c.put_entry.new.out) o (to_come c.loop-command.command-iterator) rest c.args.answers.now c.loop-command.at (text_of c.entry_for.result) come t c.in_ok-put_entry.ensures
           ∙ c.loop-command.invariant.1,
     )

@@ -7,11 +7,11 @@ use Rattle.transcripts.specs.Transcripts.{gauge_of, survey_of}
 use Rattle.transcripts.proofs.Tellings.{lines_as_told}
 use Rattle.transcripts.proofs.print.converse.Goals as goal
 
-pub print-lines-requires : goal.print-lines-requires
-print-lines-requires c =
+pub print_lines-requires : goal.print_lines-requires
+print_lines-requires c =
     let reading = (gauge_of c.args.sheet.now).reading in
     let start = survey_of c.args.sheet.now in
-    let a = c.as-slice-2.ensures.value ∙ c.in-ok-answers.ensures ∙ ap (answers_to reading start) (c.as-slice.ensures.value ∙ c.in-ok-calls.ensures) in
+    let a = c.as_slice-2.ensures.value ∙ c.in_ok-answers.ensures ∙ ap (answers_to reading start) (c.as_slice.ensures.value ∙ c.in_ok-calls.ensures) in
     ap length a ∙ answers_long reading start (asked (orders c.args.input.now))
 
 pub returns : goal.returns
@@ -19,5 +19,5 @@ returns c =
     let reading = (gauge_of c.args.sheet.now).reading in
     let start = survey_of c.args.sheet.now in
     let os = orders c.args.input.now in
-    let a = c.as-slice-2.ensures.value ∙ c.in-ok-answers.ensures ∙ ap (answers_to reading start) (c.as-slice.ensures.value ∙ c.in-ok-calls.ensures) in
-    subst (λ (text : List ℕ). IfOk c.print-lines.result (λ t. string_bytes t ≡ text)) (ap (lines_told os) a ∙ lines_as_told reading start os) c.print-lines.ensures
+    let a = c.as_slice-2.ensures.value ∙ c.in_ok-answers.ensures ∙ ap (answers_to reading start) (c.as_slice.ensures.value ∙ c.in_ok-calls.ensures) in
+    subst (λ (text : List ℕ). IfOk c.print_lines.result (λ t. string_bytes t ≡ text)) (ap (lines_told os) a ∙ lines_as_told reading start os) c.print_lines.ensures

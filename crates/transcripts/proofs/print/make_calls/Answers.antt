@@ -8,7 +8,7 @@ pub returns : goal.returns
 returns c =
     let g = c.new-gauge.result in
     let set = c.start.result in
-    let new = c.work-through-survey.new.answers in
-    let long : length c.work-through-survey.new.answers ≡ length c.args.calls.now = omega arith in
-    answers_given (record_meaning g.bytes.now g.name) set c.args.calls.now c.args.answers.now new (state_of c.work-through-survey.result.log) c.requires.room long c.work-through-survey.ensures.law
+    let new = c.work_through-survey.new.answers in
+    let long : length c.work_through-survey.new.answers ≡ length c.args.calls.now = omega arith in
+    answers_given (record_meaning g.bytes.now g.name) set c.args.calls.now c.args.answers.now new (state_of c.work_through-survey.result.log) c.requires.room long c.work_through-survey.ensures.law
     ∙ record_answers g.bytes.now c.args.sheet.now g.name set.tolerance set.limit c.args.calls.now c.new-gauge.ensures.0 c.new-gauge.ensures.1 c.start.ensures.0 c.start.ensures.1
