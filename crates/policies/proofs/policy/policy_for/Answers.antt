@@ -18,10 +18,10 @@ returns-in-Ok g c =
     let sheet = c.args.bytes.now in
     let tolerance = c.args.tolerance in
     let before = g.P.Paper.said c.args.paper.now in
-    let after = g.P.Paper.said c.survey-record.new.paper in
-    let r = c.survey-record.result in
+    let after = g.P.Paper.said c.survey_record.new.paper in
+    let r = c.survey_record.result in
     let e = ap (λ (v : Verdict). early v (opening_refusal c.args.tolerance touches_max)) c.in-Ok.ensures in
     record {
-      text = subst (λ (o : Option Refusal). IfOk r (λ _. after ≡ before ++ text_unless o (survey_text (gauge_of sheet) (start_of sheet tolerance)))) e c.survey-record.ensures.text;
-      policy = subst (λ (o : Option Refusal). IfOk r (λ x. Ends o (gauge_of sheet) (start_of sheet tolerance) (as_list vec_items x))) e c.survey-record.ensures.policy;
+      text = subst (λ (o : Option Refusal). IfOk r (λ _. after ≡ before ++ text_unless o (survey_text (gauge_of sheet) (start_of sheet tolerance)))) e c.survey_record.ensures.text;
+      policy = subst (λ (o : Option Refusal). IfOk r (λ x. Ends o (gauge_of sheet) (start_of sheet tolerance) (as_list vec_items x))) e c.survey_record.ensures.policy;
     }

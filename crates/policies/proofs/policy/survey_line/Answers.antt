@@ -16,11 +16,11 @@ returns g c =
     let after = state_of c.probe.new.survey.log in
     let same = ap (λ (u : g.row.G.Denot). (g.G.Gauge.meaning u).reading) c.open-survey.ensures.gauge in
     let opens = c.open-survey.ensures.state in
-    let probes = c.in-ok-stop.ensures in
+    let probes = c.in_ok-stop.ensures in
     let mid = g.P.Paper.said c.probe.new.paper in
-    let known = c.in-ok-print-known.ensures ∙ ap (λ (l : Log). mid ++ known_text (state_of l)) c.log.ensures in
-    let closes = c.in-ok-close.ensures ∙ ap (λ (l : Log). or_stop c.in-ok-stop.stop (certificate_told (state_of l))) c.log-2.ensures in
+    let known = c.in_ok-print_known.ensures ∙ ap (λ (l : Log). mid ++ known_text (state_of l)) c.log.ensures in
+    let closes = c.in_ok-close.ensures ∙ ap (λ (l : Log). or_stop c.in_ok-stop.stop (certificate_told (state_of l))) c.log-2.ensures in
     record {
       text = printed m s R start after same opens probes.state (g.P.Paper.said c.args.paper.now) mid _ probes.told known;
-      certificate = answered m s R start after same opens probes.state c.in-ok-stop.stop _ probes.refusal closes;
+      certificate = answered m s R start after same opens probes.state c.in_ok-stop.stop _ probes.refusal closes;
     }

@@ -15,17 +15,17 @@ returns-in-Ok g c =
     let set = c.in-Ok.setting in
     let asked = c.in-Ok.ensures in
     let before = g.P.Paper.said c.args.paper.now in
-    let after = g.P.Paper.said c.survey-line.new.paper in
-    let r = c.survey-line.result in
+    let after = g.P.Paper.said c.survey_line.new.paper in
+    let r = c.survey_line.result in
     record {
       text =
           subst (λ (o : Option Refusal). IfOk r (λ _. after ≡ before ++ text_unless o (survey_text (gauge_of sheet) (start_of sheet tolerance)))) (sym asked.0)
           (as_asked (λ (m : Meaning) (s : State). IfOk r (λ _. after ≡ before ++ survey_text m s)) gauge.bytes.now sheet gauge.name set.tolerance set.limit tolerance
-          c.new-gauge.ensures.0 c.new-gauge.ensures.1 asked.1 asked.2 c.survey-line.ensures.text);
+          c.new-gauge.ensures.0 c.new-gauge.ensures.1 asked.1 asked.2 c.survey_line.ensures.text);
       policy =
           subst (λ (o : Option Refusal). IfOk r (λ x. Ends o (gauge_of sheet) (start_of sheet tolerance) (as_list vec_items x))) (sym asked.0)
           (as_asked (λ (m : Meaning) (s : State). IfOk r (λ x. Closed m.reading (probed m s) (as_list vec_items x))) gauge.bytes.now sheet gauge.name set.tolerance set.limit tolerance
-          c.new-gauge.ensures.0 c.new-gauge.ensures.1 asked.1 asked.2 c.survey-line.ensures.certificate);
+          c.new-gauge.ensures.0 c.new-gauge.ensures.1 asked.1 asked.2 c.survey_line.ensures.certificate);
     }
 
 pub returns-in-Err : goal.returns-in-Err
