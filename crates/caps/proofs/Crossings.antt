@@ -1,9 +1,9 @@
 -- The caps of a gap, and where the largest is.
-use Rattle.std.proofs.Common.{◌≡◌, ℕ, ◌+◌, ◌-◌, ◌*◌, ◌/◌, ◌<◌, ◌≤◌, ◌≢◌, ◌⊎◌, List, [], ◌∷◌, ◌++◌, ℤ, pos, negsuc, ◌+ℤ◌, ◌-ℤ◌, ◌≤ℤ◌, ◌<ℤ◌, sym, refl, ap, ◌∙◌, inl, inr, ⊎_elim, mul-le-mul_left, div-mul-le_self, arith}
+use Rattle.std.proofs.Common.{◌≡◌, ℕ, ◌+◌, ◌*◌, ◌<◌, ◌≤◌, ◌≢◌, ◌⊎◌, List, [], ◌∷◌, ◌++◌, ℤ, pos, negsuc, ◌+ℤ◌, ◌-ℤ◌, ◌≤ℤ◌, ◌<ℤ◌, refl, ap, ◌∙◌, inl, inr, ⊎_elim, mul-le-mul_left, div-mul-le_self, arith}
 use native.Mathlib.Nat.{lt-div-mul-add}
 use lib.Signed.{lt_z}
 use borrow.Author.Differences.{ints}
-use Rattle.std.specs.List.{AllByRecursion as All}
+use Rattle.std.specs.List.{AllByRecursion}
 use Rattle.std.proofs.ByRecursion.{All-weaker, All-append}
 use Rattle.std.proofs.lemmas.Bool.{cases_order, cases_lt, cond_both, ne_eqb, cond-false}
 use Rattle.std.proofs.lemmas.Int.{clamps}
@@ -109,28 +109,28 @@ unfolding distance
 slope_right slope p x l = let e : distance p x + x ≡ p = omega arith in omega (arith, ap (λ n. slope * n) e)
 
 module _ (line : Line) (x : ℕ) where
-  from_left : (a : Touch) (ls : List Touch) → All (λ t. t.position < x) (a ∷ ls) → least (reach line x) a ls ≡ (least (rise line.slope) a ls +ℤ pos (line.slope * x)) +ℤ pos line.slack
+  from_left : (a : Touch) (ls : List Touch) → AllByRecursion (λ t. t.position < x) (a ∷ ls) → least (reach line x) a ls ≡ (least (rise line.slope) a ls +ℤ pos (line.slope * x)) +ℤ pos line.slack
   from_left a ls h =
       let c : ℤ = pos (line.slope * x) +ℤ pos line.slack in
       let e = least_moved (reach line x) (rise line.slope) c a ls
       (All-weaker (λ t. t.position < x) (λ t. reach line x t ≡ rise line.slope t +ℤ c) (λ t l. omega (arith, ints, slope_left line.slope t.position x l)) (a ∷ ls) h) in
       omega (arith, ints)
 
-  from_right : (b : Touch) (rs : List Touch) → All (λ t. x < t.position) (b ∷ rs) → least (reach line x) b rs ≡ (least (fall line.slope) b rs -ℤ pos (line.slope * x)) +ℤ pos line.slack
+  from_right : (b : Touch) (rs : List Touch) → AllByRecursion (λ t. x < t.position) (b ∷ rs) → least (reach line x) b rs ≡ (least (fall line.slope) b rs -ℤ pos (line.slope * x)) +ℤ pos line.slack
   from_right b rs h =
       let c : ℤ = pos line.slack -ℤ pos (line.slope * x) in
       let e = least_moved (reach line x) (fall line.slope) c b rs
       (All-weaker (λ t. x < t.position) (λ t. reach line x t ≡ fall line.slope t +ℤ c) (λ t l. omega (arith, ints, slope_right line.slope t.position x l)) (b ∷ rs) h) in
       omega (arith, ints)
 
-  away_left : (ts : List Touch) → All (λ t. t.position < x) ts → Untouched ts x
+  away_left : (ts : List Touch) → AllByRecursion (λ t. t.position < x) ts → Untouched ts x
   away_left ts h = All-weaker (λ t. t.position < x) (λ t. t.position ≢ x) (λ t k. omega arith) ts h
 
-  away_right : (ts : List Touch) → All (λ t. x < t.position) ts → Untouched ts x
+  away_right : (ts : List Touch) → AllByRecursion (λ t. x < t.position) ts → Untouched ts x
   away_right ts h = All-weaker (λ t. x < t.position) (λ t. t.position ≢ x) (λ t k. omega arith) ts h
 
   -- The cap of a position with touches on both sides, on the left only, on the right only.
-  pub caps_both : (a : Touch) (ls : List Touch) (b : Touch) (rs : List Touch) → All (λ t. t.position < x) (a ∷ ls) → All (λ t. x < t.position) (b ∷ rs) →
+  pub caps_both : (a : Touch) (ls : List Touch) (b : Touch) (rs : List Touch) → AllByRecursion (λ t. t.position < x) (a ∷ ls) → AllByRecursion (λ t. x < t.position) (b ∷ rs) →
       cap line ((a ∷ ls) ++ (b ∷ rs)) x ≡ roof line.slope (least (rise line.slope) a ls) (least (fall line.slope) b rs) x +ℤ pos line.slack
   caps_both a ls b rs l r =
       let L = from_left a ls l in
@@ -138,20 +138,20 @@ module _ (line : Line) (x : ℕ) where
       free_height ((a ∷ ls) ++ (b ∷ rs)) x _ (All-append (λ t. t.position ≢ x) (a ∷ ls) (b ∷ rs) (away_left (a ∷ ls) l) (away_right (b ∷ rs) r))
       ∙ least_append (reach line x) a ls b rs ∙ omega (arith, ints, clamps)
 
-  pub caps_left : (a : Touch) (ls : List Touch) → All (λ t. t.position < x) (a ∷ ls) → cap line (a ∷ ls) x ≡ (least (rise line.slope) a ls +ℤ pos (line.slope * x)) +ℤ pos line.slack
+  pub caps_left : (a : Touch) (ls : List Touch) → AllByRecursion (λ t. t.position < x) (a ∷ ls) → cap line (a ∷ ls) x ≡ (least (rise line.slope) a ls +ℤ pos (line.slope * x)) +ℤ pos line.slack
   caps_left a ls l = free_height (a ∷ ls) x _ (away_left (a ∷ ls) l) ∙ from_left a ls l
 
-  pub caps_right : (b : Touch) (rs : List Touch) → All (λ t. x < t.position) (b ∷ rs) → cap line (b ∷ rs) x ≡ (least (fall line.slope) b rs -ℤ pos (line.slope * x)) +ℤ pos line.slack
+  pub caps_right : (b : Touch) (rs : List Touch) → AllByRecursion (λ t. x < t.position) (b ∷ rs) → cap line (b ∷ rs) x ≡ (least (fall line.slope) b rs -ℤ pos (line.slope * x)) +ℤ pos line.slack
   caps_right b rs r = free_height (b ∷ rs) x _ (away_right (b ∷ rs) r) ∙ from_right b rs r
 
 module _ (line : Line) (g : Stretch) (positive : 1 ≤ line.slope) (some : g.from ≤ g.to) where
-  lefts : (x : ℕ) → g.from ≤ x → (ts : List Touch) → All (λ t. t.position < g.from) ts → All (λ t. t.position < x) ts
+  lefts : (x : ℕ) → g.from ≤ x → (ts : List Touch) → AllByRecursion (λ t. t.position < g.from) ts → AllByRecursion (λ t. t.position < x) ts
   lefts x k ts = All-weaker (λ t. t.position < g.from) (λ t. t.position < x) (λ t m. omega arith) ts
 
-  rights : (x : ℕ) → x ≤ g.to → (ts : List Touch) → All (λ t. g.to < t.position) ts → All (λ t. x < t.position) ts
+  rights : (x : ℕ) → x ≤ g.to → (ts : List Touch) → AllByRecursion (λ t. g.to < t.position) ts → AllByRecursion (λ t. x < t.position) ts
   rights x k ts = All-weaker (λ t. g.to < t.position) (λ t. x < t.position) (λ t m. omega arith) ts
 
-  pub largest_beside_the_crossing : (a : Touch) (ls : List Touch) (b : Touch) (rs : List Touch) → All (λ t. t.position < g.from) (a ∷ ls) → All (λ t. g.to < t.position) (b ∷ rs) →
+  pub largest_beside_the_crossing : (a : Touch) (ls : List Touch) (b : Touch) (rs : List Touch) → AllByRecursion (λ t. t.position < g.from) (a ∷ ls) → AllByRecursion (λ t. g.to < t.position) (b ∷ rs) →
       top_place (cap line ((a ∷ ls) ++ (b ∷ rs))) g
       ≡ beside (roof line.slope (least (rise line.slope) a ls) (least (fall line.slope) b rs)) g.from g.to
       (crossing line.slope (least (rise line.slope) a ls) (least (fall line.slope) b rs))
@@ -162,14 +162,14 @@ module _ (line : Line) (g : Stretch) (positive : 1 ≤ line.slope) (some : g.fro
       (peak_moved (cap line ((a ∷ ls) ++ (b ∷ rs))) (roof line.slope L R) (pos line.slack) g.from g.to (beside (roof line.slope L R) g.from g.to (crossing line.slope L R))
       (λ x k m. caps_both line x a ls b rs (lefts x k (a ∷ ls) l) (rights x m (b ∷ rs) r)) (roof_peak line.slope L R g.from g.to positive some))
 
-  pub largest_after_all_touches : (a : Touch) (ls : List Touch) → All (λ t. t.position < g.from) (a ∷ ls) → top_place (cap line (a ∷ ls)) g ≡ g.to
+  pub largest_after_all_touches : (a : Touch) (ls : List Touch) → AllByRecursion (λ t. t.position < g.from) (a ∷ ls) → top_place (cap line (a ∷ ls)) g ≡ g.to
   largest_after_all_touches a ls l =
       let L : ℤ = least (rise line.slope) a ls in
       peak_is_top (cap line (a ∷ ls)) g g.to
       (peak_moved (cap line (a ∷ ls)) (λ x. L +ℤ pos (line.slope * x)) (pos line.slack) g.from g.to g.to
       (λ x k m. caps_left line x a ls (lefts x k (a ∷ ls) l)) (rising_peak line.slope L g.from g.to positive some))
 
-  pub largest_before_all_touches : (b : Touch) (rs : List Touch) → All (λ t. g.to < t.position) (b ∷ rs) → top_place (cap line (b ∷ rs)) g ≡ g.from
+  pub largest_before_all_touches : (b : Touch) (rs : List Touch) → AllByRecursion (λ t. g.to < t.position) (b ∷ rs) → top_place (cap line (b ∷ rs)) g ≡ g.from
   largest_before_all_touches b rs r =
       let R : ℤ = least (fall line.slope) b rs in
       peak_is_top (cap line (b ∷ rs)) g g.from

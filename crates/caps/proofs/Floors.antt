@@ -1,7 +1,7 @@
 -- The floor is the largest touched height, at the lowest position that has it.
-use Rattle.std.proofs.Common.{◌≡◌, ℕ, ◌<◌, ◌≤◌, List, ◌∷◌, ◌++◌, ℤ, ◌≤ℤ◌, ◌<ℤ◌, sym, subst, arith}
+use Rattle.std.proofs.Common.{◌≡◌, ◌<◌, ◌≤◌, List, ◌∷◌, ℤ, ◌<ℤ◌, sym, subst, arith}
 use borrow.Author.Differences.{ints}
-use Rattle.std.specs.List.{ContainsAt as Has, AllByRecursion as All}
+use Rattle.std.specs.List.{ContainsAt as Has, AllByRecursion}
 use Rattle.std.proofs.ByRecursion.{All-weaker, All-append, all_has_itself}
 use Rattle.pick.specs.Picks.{Leads}
 use Rattle.pick.proofs.Computed.{picked_picks}
@@ -22,7 +22,7 @@ floor_is_highest_and_lowest line a ts on =
     record {
       touched = first_has height (Has (a ∷ ts)) a ts (all_has_itself (a ∷ ts));
       highest = below_first height a ts;
-      lowest = subst (All W) (sym l.there)
+      lowest = subst (AllByRecursion W) (sym l.there)
           (All-append W l.before (t ∷ l.after)
           (All-weaker (λ u. u.height <ℤ t.height) W (λ u k e. absurd (omega (arith, ints))) l.before l.lower)
           ((λ e. omega arith), All-weaker (λ u. t.position < u.position) W (λ u k e. omega arith) l.after after));

@@ -1,8 +1,8 @@
 -- The gaps are the runs of untouched positions that no neighbour extends.
-use Rattle.std.proofs.Common.{◌≡◌, ℕ, ◌+◌, ◌-◌, ◌<◌, ◌≤◌, cond, ltb, leb, ◌≢◌, ◌⊎◌, List, [], ◌∷◌, sym, refl, ap, ◌∙◌, subst, inl, inr, ⊎_elim, arith}
-use Rattle.std.specs.List.{ContainsAt as Has, AllByRecursion as All}
+use Rattle.std.proofs.Common.{◌≡◌, ℕ, ◌+◌, ◌-◌, ◌<◌, ◌≤◌, ltb, leb, ◌≢◌, ◌⊎◌, List, [], ◌∷◌, sym, refl, ap, ◌∙◌, subst, inl, inr, ⊎_elim, arith}
+use Rattle.std.specs.List.{ContainsAt as Has, AllByRecursion}
 use Rattle.std.proofs.ByRecursion.{All-weaker, all-has, all_has_itself}
-use Rattle.std.proofs.lemmas.Bool.{cond_both, ltb-true, ltb-false, leb-true, leb-false, cases_lt, cases_order}
+use Rattle.std.proofs.lemmas.Bool.{cond_both, ltb-true, ltb-false, leb-true, leb-false, cases_lt}
 use Rattle.caps.specs.declared.Touch.{Touch}
 use Rattle.caps.specs.declared.Line.{Line}
 use Rattle.caps.specs.Touches.{Rising, OnLine, Untouched}
@@ -10,15 +10,15 @@ use Rattle.caps.specs.Stretches.{Stretch}
 use Rattle.caps.specs.Gaps.{IsGap, gaps_from, gaps, Ascending}
 
 -- An untouched position lies in a gap that has whatever every gap has.
-pub cover : (P : Stretch → Type 0) (last x : ℕ) → x ≤ last → (lo : ℕ) (ts : List Touch) → Untouched ts x → lo ≤ x → All P (gaps_from last lo ts) →
+pub cover : (P : Stretch → Type 0) (last x : ℕ) → x ≤ last → (lo : ℕ) (ts : List Touch) → Untouched ts x → lo ≤ x → AllByRecursion P (gaps_from last lo ts) →
     (g : Stretch) × P g × (g.from ≤ x) × (x ≤ g.to)
 cover P last x m lo [] u l =
-    cond_both (leb lo last) (record { from = lo; to = last } ∷ []) [] (λ gs. All P gs → (g : Stretch) × P g × (g.from ≤ x) × (x ≤ g.to))
+    cond_both (leb lo last) (record { from = lo; to = last } ∷ []) [] (λ gs. AllByRecursion P gs → (g : Stretch) × P g × (g.from ≤ x) × (x ≤ g.to))
     (λ e h. (record { from = lo; to = last }, h.0, l, m))
     (λ e h. absurd (omega (arith, leb-false lo last e)))
 cover P last x m lo (t ∷ ts) u l =
     let n = u.0 in
-    cond_both (ltb lo t.position) _ _ (λ gs. All P gs → (g : Stretch) × P g × (g.from ≤ x) × (x ≤ g.to))
+    cond_both (ltb lo t.position) _ _ (λ gs. AllByRecursion P gs → (g : Stretch) × P g × (g.from ≤ x) × (x ≤ g.to))
     (λ e h. ⊎_elim (λ k. (record { from = lo; to = t.position - 1 }, h.0, l, omega arith)) (λ k. cover P last x m (t.position + 1) ts u.1 (omega arith) h.1) (cases_lt x t.position))
     (λ e h. cover P last x m (t.position + 1) ts u.1 (omega (arith, ltb-false lo t.position e)) h)
 
@@ -27,16 +27,16 @@ record Among (last lo : ℕ) (ts : List Touch) (g : Stretch) : Type 0 where
   low : lo ≤ g.from
   some : g.from ≤ g.to
   high : g.to ≤ last
-  beside : All (λ t. (t.position < g.from) ⊎ (g.to < t.position)) ts
+  beside : AllByRecursion (λ t. (t.position < g.from) ⊎ (g.to < t.position)) ts
   before : (g.from ≡ lo) ⊎ ((x : ℕ) → x + 1 ≡ g.from → Untouched ts x → ⊥)
   after : (g.to ≡ last) ⊎ (Untouched ts (g.to + 1) → ⊥)
 
-among : (last lo : ℕ) (ts : List Touch) → Rising ts → All (λ t. t.position ≤ last) ts → All (λ t. lo ≤ t.position) ts → All (Among last lo ts) (gaps_from last lo ts)
+among : (last lo : ℕ) (ts : List Touch) → Rising ts → AllByRecursion (λ t. t.position ≤ last) ts → AllByRecursion (λ t. lo ≤ t.position) ts → AllByRecursion (Among last lo ts) (gaps_from last lo ts)
 among last lo [] r w a =
-    cond_both (leb lo last) _ _ (All (Among last lo []))
+    cond_both (leb lo last) _ _ (AllByRecursion (Among last lo []))
     (λ e. (record { low = omega arith; some = leb-true lo last e; high = omega arith; beside = tt; before = inl refl; after = inl refl }, tt)) (λ e. tt)
 among last lo (t ∷ ts) r w a =
-    let rest : All (Among last lo (t ∷ ts)) (gaps_from last (t.position + 1) ts) =
+    let rest : AllByRecursion (Among last lo (t ∷ ts)) (gaps_from last (t.position + 1) ts) =
     All-weaker (Among last (t.position + 1) ts) (Among last lo (t ∷ ts))
     (λ g h. record {
       low = omega (arith, h.low, a.0);
@@ -48,7 +48,7 @@ among last lo (t ∷ ts) r w a =
     })
     (gaps_from last (t.position + 1) ts)
     (among last (t.position + 1) ts r.1 w.1 (All-weaker (λ u. t.position < u.position) (λ u. t.position + 1 ≤ u.position) (λ u k. omega arith) ts r.0)) in
-    cond_both (ltb lo t.position) _ _ (All (Among last lo (t ∷ ts)))
+    cond_both (ltb lo t.position) _ _ (AllByRecursion (Among last lo (t ∷ ts)))
     (λ e. let k = ltb-true lo t.position e in (
       record {
         low = omega arith;
@@ -62,10 +62,10 @@ among last lo (t ∷ ts) r w a =
     ))
     (λ e. rest)
 
-apart : (g : Stretch) (x : ℕ) (ts : List Touch) → g.from ≤ x → x ≤ g.to → All (λ t. (t.position < g.from) ⊎ (g.to < t.position)) ts → Untouched ts x
+apart : (g : Stretch) (x : ℕ) (ts : List Touch) → g.from ≤ x → x ≤ g.to → AllByRecursion (λ t. (t.position < g.from) ⊎ (g.to < t.position)) ts → Untouched ts x
 apart g x ts l m h = All-weaker (λ t. (t.position < g.from) ⊎ (g.to < t.position)) (λ t. t.position ≢ x) (λ t b. omega arith) ts h
 
-ascend : (last lo : ℕ) (ts : List Touch) → Rising ts → All (λ t. t.position ≤ last) ts → All (λ t. lo ≤ t.position) ts → Ascending (gaps_from last lo ts)
+ascend : (last lo : ℕ) (ts : List Touch) → Rising ts → AllByRecursion (λ t. t.position ≤ last) ts → AllByRecursion (λ t. lo ≤ t.position) ts → Ascending (gaps_from last lo ts)
 ascend last lo [] r w a = cond_both (leb lo last) _ _ Ascending (λ e. (tt, tt)) (λ e. tt)
 ascend last lo (t ∷ ts) r w a =
     let next = All-weaker (λ u. t.position < u.position) (λ u. t.position + 1 ≤ u.position) (λ u k. omega arith) ts r.0 in
@@ -75,10 +75,10 @@ ascend last lo (t ∷ ts) r w a =
     (λ e. rest)
 
 module _ (line : Line) (ts : List Touch) (on : OnLine line ts) where
-  zeros : All (λ t. 0 ≤ t.position) ts
+  zeros : AllByRecursion (λ t. 0 ≤ t.position) ts
   zeros = All-weaker (λ t. t.position ≤ line.last) (λ t. 0 ≤ t.position) (λ t h. omega arith) ts on.within
 
-  pub each_is_a_gap : All (IsGap line ts) (gaps line ts)
+  pub each_is_a_gap : AllByRecursion (IsGap line ts) (gaps line ts)
   each_is_a_gap =
       All-weaker (Among line.last 0 ts) (IsGap line ts)
       (λ g h. record {

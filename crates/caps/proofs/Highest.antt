@@ -1,9 +1,8 @@
 -- The first gap of highest largest cap has the untouched position of largest cap.
-use Rattle.std.proofs.Common.{◌≡◌, ℕ, ◌+◌, ◌<◌, ◌≤◌, Bool, true, false, cond, not, eqb, ◌≢◌, ◌⊎◌, List, [], ◌∷◌, ◌++◌, ℤ, pos, ◌+ℤ◌, ◌≤ℤ◌, ◌<ℤ◌, Some, None, Option, sym, refl, ap, ◌∙◌, subst, inl, inr, ⊎_elim, arith}
-use lib.Signed.{le_z}
+use Rattle.std.proofs.Common.{◌≡◌, ℕ, ◌<◌, ◌≤◌, Bool, true, false, not, eqb, ◌≢◌, ◌⊎◌, List, [], ◌∷◌, ℤ, pos, ◌+ℤ◌, ◌≤ℤ◌, ◌<ℤ◌, Some, None, Option, sym, refl, ap, ◌∙◌, subst, inl, inr, ⊎_elim, arith}
 use borrow.Author.Differences.{ints}
 use Rattle.std.specs.Int.{int_max}
-use Rattle.std.specs.List.{AllByRecursion as All}
+use Rattle.std.specs.List.{AllByRecursion}
 use Rattle.std.proofs.ByRecursion.{All-weaker, All-append, all_kept_by, kept_by_passes}
 use Rattle.std.proofs.lemmas.Int.{clamps}
 use Rattle.std.proofs.lemmas.Bool.{cond-true, cond_both, cond-false, eq-eqb, ne_eqb, eqb-false, cases_order, both_ways, not-true, not_from_false}
@@ -18,7 +17,7 @@ use Rattle.caps.specs.Caps.{least, height_or, reach, cap, ceiling, floor}
 use Rattle.caps.specs.Gaps.{untouched, IsGap, gaps, Ascending, mapped, high_summit, highest_gap, HighestUntouched}
 use Rattle.caps.specs.Outlooks.{is_settled}
 use Rattle.caps.specs.Laws.{over}
-use Rattle.caps.proofs.Lists.{all_zip, parts, order_after, kept_in_order, kept_all, leads_tops, leads_has}
+use Rattle.caps.proofs.Lists.{all_zip, order_after, kept_in_order, kept_all, leads_tops, leads_has}
 use Rattle.caps.proofs.Extremes.{first_has, below_first}
 use Rattle.caps.proofs.Peaks.{positions_all, all_positions, positions_climb, top_peak, top_above, above_top}
 use Rattle.caps.proofs.Possible.{touched_or}
@@ -45,13 +44,13 @@ module _ (line : Line) (ts : List Touch) where
   abbrev Free : ℕ → Type 0
   Free x = (x ≤ line.last) × Untouched ts x
 
-  untouched_are : All Free (untouched line ts)
+  untouched_are : AllByRecursion Free (untouched line ts)
   untouched_are =
       all_zip (λ x. x ≤ line.last) (λ x. test x ≡ true) Free (λ x l t. (l, false_untouched ts x (not-true (is_touched ts x) t))) (untouched line ts)
       (all_kept_by test (λ x. x ≤ line.last) (positions (whole line)) (positions_all (λ x. x ≤ line.last) (whole line) (omega arith) (λ x l m. m)))
       (kept_by_passes test (positions (whole line)))
 
-  untouched_all : (P : ℕ → Type 0) → All P (untouched line ts) → (x : ℕ) → x ≤ line.last → Untouched ts x → P x
+  untouched_all : (P : ℕ → Type 0) → AllByRecursion P (untouched line ts) → (x : ℕ) → x ≤ line.last → Untouched ts x → P x
   untouched_all P h x l u =
       all_positions (λ y. test y ≡ true → P y) (whole line) (kept_all P test (positions (whole line)) h) x (omega arith) l (not_from_false (is_touched ts x) (untouched_false ts x u))
 
@@ -79,11 +78,11 @@ module _ (line : Line) (ts : List Touch) where
     abbrev pub gs : List Stretch
     gs = gaps line ts
 
-    pub peaks : All (λ g. Peak F g.from g.to (top_place F g)) gs
+    pub peaks : AllByRecursion (λ g. Peak F g.from g.to (top_place F g)) gs
     peaks = All-weaker (IsGap line ts) (λ g. Peak F g.from g.to (top_place F g)) (λ g m. top_peak F g m.some) gs (each_is_a_gap line ts on)
 
     -- What every gap has, and every position of it has therefore, every untouched position has.
-    pub by_gaps : (W : Stretch → Type 0) (P : ℕ → Type 0) → ((g : Stretch) (x : ℕ) → g.from ≤ x → x ≤ g.to → F x ≤ℤ top F g → W g → P x) → All W gs → (x : ℕ) → x ≤ line.last → Untouched ts x → P x
+    pub by_gaps : (W : Stretch → Type 0) (P : ℕ → Type 0) → ((g : Stretch) (x : ℕ) → g.from ≤ x → x ≤ g.to → F x ≤ℤ top F g → W g → P x) → AllByRecursion W gs → (x : ℕ) → x ≤ line.last → Untouched ts x → P x
     by_gaps W P f h x l u =
         let Q : Stretch → Type 0 = λ g. Peak F g.from g.to (top_place F g) in
         let k = cover (λ g. Q g × W g) line.last x l 0 ts u (omega arith) (all_zip Q W (λ g. Q g × W g) (λ g p q. (p, q)) gs peaks h) in
@@ -95,7 +94,7 @@ module _ (line : Line) (ts : List Touch) where
         let pk = leads_has (top F) (λ g. Peak F g.from g.to (top_place F g)) gs g l peaks in
         let at = leads_has (top F) (IsGap line ts) gs g l (each_is_a_gap line ts on) in
         let behind = order_after (λ g k. g.to < k.from) l.before g l.after (subst Ascending l.there (gaps_ascend line ts on)) in
-        let whole_list : All W gs = subst (All W) (sym l.there)
+        let whole_list : AllByRecursion W gs = subst (AllByRecursion W) (sym l.there)
         (All-append W l.before (g ∷ l.after)
         (All-weaker (λ k. top F k <ℤ top F g) W (λ k m. (omega (arith, ints), inl m)) l.before l.lower)
         ((omega (arith, ints), inr (omega arith)), all_zip (λ k. top F k ≤ℤ top F g) (λ k. g.to < k.from) W (λ k m b. (m, inr (omega (arith, at.some)))) l.after l.most behind)) in
@@ -112,12 +111,12 @@ module _ (line : Line) (ts : List Touch) where
       where
         go : (o : Option ℕ) (k : Option Stretch) → Picks F (untouched line ts) o → Picks (top F) gs k → mapped (marked F) o ≡ mapped (summit_of F) k
         go None None p q = refl
-        go None (Some g) p q = let h = highest_by_gaps g q in absurd (untouched_all (λ x. ⊥) (subst (All (λ x. ⊥)) (sym p) tt) (top_place F g) h.within h.free)
-        go (Some x) None p q = let h = high_is x p in absurd (by_gaps (λ g. ⊥) (λ x. ⊥) (λ g x a b c w. w) (subst (All (λ g. ⊥)) (sym q) tt) x h.within h.free)
+        go None (Some g) p q = let h = highest_by_gaps g q in absurd (untouched_all (λ x. ⊥) (subst (AllByRecursion (λ x. ⊥)) (sym p) tt) (top_place F g) h.within h.free)
+        go (Some x) None p q = let h = high_is x p in absurd (by_gaps (λ g. ⊥) (λ x. ⊥) (λ g x a b c w. w) (subst (AllByRecursion (λ g. ⊥)) (sym q) tt) x h.within h.free)
         go (Some x) (Some g) p q = ap (λ y. Some (marked F y)) (one_high x (top_place F g) (high_is x p) (highest_by_gaps g q))
 
 -- The cap of a touched position is its height.
-height_at : (ts : List Touch) → Rising ts → All (λ t. (z : ℤ) → height_or ts t.position z ≡ t.height) ts
+height_at : (ts : List Touch) → Rising ts → AllByRecursion (λ t. (z : ℤ) → height_or ts t.position z ≡ t.height) ts
 height_at [] r = tt
 height_at (t ∷ ts) r = (
   (λ z. cond-true _ _ _ (eq-eqb t.position t.position refl)),
@@ -147,7 +146,7 @@ module _ (line : Line) (a : Touch) (ts : List Touch) (on : OnLine line (a ∷ ts
 
   over_is : (o : Option Stretch) → Picks (top C) (gaps line (a ∷ ts)) o → ceiling line (a ∷ ts) ≡ over (floor a ts).height (mapped (summit_of C) o)
   over_is None h =
-      let l = under low (omega (arith, ints)) (λ x l u. absurd (by_gaps line (a ∷ ts) on (λ g. ⊥) (λ x. ⊥) (λ g x a b c w. w) (subst (All (λ g. ⊥)) (sym h) tt) x l u)) in
+      let l = under low (omega (arith, ints)) (λ x l u. absurd (by_gaps line (a ∷ ts) on (λ g. ⊥) (λ x. ⊥) (λ g x a b c w. w) (subst (AllByRecursion (λ g. ⊥)) (sym h) tt) x l u)) in
       omega (arith, ints, floor_under)
   over_is (Some g) h =
       let k = highest_by_gaps line (a ∷ ts) on g h in

@@ -1,7 +1,7 @@
 -- More touches.
-use Rattle.std.proofs.Common.{◌≡◌, ℕ, ◌+◌, ◌*◌, ◌<◌, ◌≤◌, cond, ltb, ◌≢◌, List, [], ◌∷◌, map, ℤ, pos, ◌+ℤ◌, ◌≤ℤ◌, Some, sym, refl, ap, ◌∙◌, subst, arith}
+use Rattle.std.proofs.Common.{◌≡◌, ℕ, ◌*◌, ◌<◌, ◌≤◌, ltb, List, [], ◌∷◌, map, ◌≤ℤ◌, Some, sym, refl, ap, subst, arith}
 use borrow.Author.Differences.{ints}
-use Rattle.std.specs.List.{ContainsAt as Has, AllByRecursion as All}
+use Rattle.std.specs.List.{ContainsAt as Has, AllByRecursion}
 use Rattle.std.proofs.ByRecursion.{All-weaker, all-has, all_has_itself, All-map}
 use Rattle.std.proofs.lemmas.Bool.{cond_both, ltb-true, ltb-false}
 use Rattle.terms.specs.Meaning.{distance}
@@ -16,12 +16,12 @@ use Rattle.caps.specs.Laws.{NoWorse, MayTouch}
 use Rattle.caps.proofs.Lists.{all_zip, from_map}
 use Rattle.caps.proofs.Extremes.{below_least, least_below, first_has, below_first}
 use Rattle.caps.proofs.Extension.{from, extension}
-use Rattle.caps.proofs.Room.{room, distance_same}
+use Rattle.caps.proofs.Room.{distance_same}
 use Rattle.caps.proofs.Peaks.{top_above, above_top}
 use Rattle.caps.proofs.Possible.{R, cap_is}
 
 -- Touches that have the touches a and ts among them.
-pub more_touches : (line : Line) (a : Touch) (ts : List Touch) (b : Touch) (us : List Touch) → LawfulTouches line (a ∷ ts) → LawfulTouches line (b ∷ us) → All (Has (b ∷ us)) (a ∷ ts) →
+pub more_touches : (line : Line) (a : Touch) (ts : List Touch) (b : Touch) (us : List Touch) → LawfulTouches line (a ∷ ts) → LawfulTouches line (b ∷ us) → AllByRecursion (Has (b ∷ us)) (a ∷ ts) →
     ((x : ℕ) → cap line (b ∷ us) x ≤ℤ cap line (a ∷ ts) x) × (ceiling line (b ∷ us) ≤ℤ ceiling line (a ∷ ts)) × ((floor a ts).height ≤ℤ (floor b us).height)
 more_touches line a ts b us ta tb sub =
     let r : ℕ → ℕ → ℕ = R line in
@@ -35,14 +35,14 @@ more_touches line a ts b us ta tb sub =
           (All-weaker (Has (b ∷ us)) (λ t. t.height ≤ℤ (floor b us).height) (λ t m. all-has (λ u. u.height ≤ℤ (floor b us).height) (b ∷ us) t (below_first (λ t. t.height) b us) m) (a ∷ ts) sub),
     )
 
-pub insert_in : (P : Touch → Type 0) (u : Touch) (ts : List Touch) → P u → All P ts → All P (insert u ts)
+pub insert_in : (P : Touch → Type 0) (u : Touch) (ts : List Touch) → P u → AllByRecursion P ts → AllByRecursion P (insert u ts)
 insert_in P u [] p h = (p, h)
-insert_in P u (t ∷ ts) p h = cond_both (ltb u.position t.position) (u ∷ (t ∷ ts)) (t ∷ insert u ts) (All P) (λ e. (p, h)) (λ e. (h.0, insert_in P u ts p h.1))
+insert_in P u (t ∷ ts) p h = cond_both (ltb u.position t.position) (u ∷ (t ∷ ts)) (t ∷ insert u ts) (AllByRecursion P) (λ e. (p, h)) (λ e. (h.0, insert_in P u ts p h.1))
 
-pub insert_out : (P : Touch → Type 0) (u : Touch) (ts : List Touch) → All P (insert u ts) → All P (u ∷ ts)
+pub insert_out : (P : Touch → Type 0) (u : Touch) (ts : List Touch) → AllByRecursion P (insert u ts) → AllByRecursion P (u ∷ ts)
 insert_out P u [] = λ h. h
 insert_out P u (t ∷ ts) =
-    cond_both (ltb u.position t.position) (u ∷ (t ∷ ts)) (t ∷ insert u ts) (λ xs. All P xs → All P (u ∷ (t ∷ ts))) (λ e h. h)
+    cond_both (ltb u.position t.position) (u ∷ (t ∷ ts)) (t ∷ insert u ts) (λ xs. AllByRecursion P xs → AllByRecursion P (u ∷ (t ∷ ts))) (λ e h. h)
     (λ e h. let r = insert_out P u ts h.1 in (r.0, (h.0, r.1)))
 
 pub insert_rising : (u : Touch) (ts : List Touch) → Rising ts → Untouched ts u.position → Rising (insert u ts)
@@ -55,7 +55,7 @@ insert_rising u (t ∷ ts) r n =
 pub insert_on_line : (line : Line) (u : Touch) (ts : List Touch) → OnLine line ts → u.position ≤ line.last → Untouched ts u.position → OnLine line (insert u ts)
 insert_on_line line u ts h l n = record { within = insert_in (λ t. t.position ≤ line.last) u ts l h.within; rising = insert_rising u ts h.rising n }
 
-pub every_touch_stays : (u : Touch) (ts : List Touch) → All (Has (insert u ts)) (u ∷ ts)
+pub every_touch_stays : (u : Touch) (ts : List Touch) → AllByRecursion (Has (insert u ts)) (u ∷ ts)
 every_touch_stays u ts = insert_out (Has (insert u ts)) u ts (all_has_itself (insert u ts))
 
 pub stays_lawful : (line : Line) (u : Touch) (ts : List Touch) → LawfulTouches line ts → MayTouch line u ts → LawfulTouches line (insert u ts)
@@ -63,9 +63,9 @@ stays_lawful line u ts h m =
     let K : Touch → Touch → Type 0 = Agree line in
     record {
       on_line = insert_on_line line u ts h.on_line m.within m.free;
-      lawful = insert_in (λ t. All (K t) (insert u ts)) u ts
+      lawful = insert_in (λ t. AllByRecursion (K t) (insert u ts)) u ts
           (insert_in (K u) u ts (omega (arith, ints)) (All-weaker (λ t. K t u) (K u) (λ t q. omega (arith, ints, ap (λ d. line.slope * d) (distance_same t.position u.position))) ts m.lawful))
-          (all_zip (λ t. K t u) (λ t. All (K t) ts) (λ t. All (K t) (insert u ts)) (λ t p q. insert_in (K t) u ts p q) ts m.lawful h.lawful);
+          (all_zip (λ t. K t u) (λ t. AllByRecursion (K t) ts) (λ t. AllByRecursion (K t) (insert u ts)) (λ t p q. insert_in (K t) u ts p q) ts m.lawful h.lawful);
     }
 
 -- A list with an item has a first one.
@@ -79,7 +79,7 @@ never_worse line u (a ∷ ts) o h m e =
     let stay = every_touch_stays u (a ∷ ts) in
     let f = first_of (insert u (a ∷ ts)) u stay.0 in
     let told : Outlook = seen line f.0 f.1 in
-    let more = more_touches line a ts f.0 f.1 h (subst (LawfulTouches line) f.2 (stays_lawful line u (a ∷ ts) h m)) (subst (λ us. All (Has us) (a ∷ ts)) f.2 stay.1) in
+    let more = more_touches line a ts f.0 f.1 h (subst (LawfulTouches line) f.2 (stays_lawful line u (a ∷ ts) h m)) (subst (λ us. AllByRecursion (Has us) (a ∷ ts)) f.2 stay.1) in
     let is : o ≡ seen line a ts = cc in
     record {
       told = told;
@@ -90,7 +90,7 @@ never_worse line u (a ∷ ts) o h m e =
     }
 
 -- A touch far from touches that lie apart leaves them so.
-pub stays_apart : (d : ℕ) (u : Touch) (ts : List Touch) → Apart d (map (λ t. t.position) ts) → All (λ t. d ≤ distance t.position u.position) ts → Apart d (map (λ t. t.position) (insert u ts))
+pub stays_apart : (d : ℕ) (u : Touch) (ts : List Touch) → Apart d (map (λ t. t.position) ts) → AllByRecursion (λ t. d ≤ distance t.position u.position) ts → Apart d (map (λ t. t.position) (insert u ts))
 stays_apart d u [] h f = (tt, tt)
 stays_apart d u (t ∷ ts) h f =
     cond_both (ltb u.position t.position) (u ∷ (t ∷ ts)) (t ∷ insert u ts) (λ xs. Apart d (map (λ t. t.position) xs))

@@ -1,19 +1,19 @@
 -- The lowest gap above a bound.
-use Rattle.std.proofs.Common.{◌≡◌, ℕ, ◌+◌, ◌<◌, ◌≤◌, Bool, true, false, not, ◌⊎◌, List, [], ◌∷◌, ◌++◌, ℤ, pos, ◌+ℤ◌, ◌≤ℤ◌, ◌<ℤ◌, is_some, Some, None, Option, sym, refl, subst, inl, inr, ⊎_elim, arith}
+use Rattle.std.proofs.Common.{◌≡◌, ℕ, ◌<◌, ◌≤◌, true, false, not, ◌⊎◌, List, ◌∷◌, ℤ, pos, ◌+ℤ◌, ◌≤ℤ◌, is_some, Some, None, Option, sym, subst, inl, inr, ⊎_elim, arith}
 use lib.Signed.{le_z}
 use borrow.Author.Differences.{ints}
-use Rattle.std.specs.List.{AllByRecursion as All}
+use Rattle.std.specs.List.{AllByRecursion}
 use Rattle.std.proofs.ByRecursion.{All-weaker, All-append}
-use Rattle.pick.specs.Picks.{first_above, Exceeds, Finds}
+use Rattle.pick.specs.Picks.{Finds}
 use Rattle.pick.proofs.Computed.{above_finds}
 use Rattle.caps.specs.declared.Touch.{Touch}
 use Rattle.caps.specs.declared.Line.{Line}
-use Rattle.caps.specs.Touches.{OnLine, Untouched}
+use Rattle.caps.specs.Touches.{OnLine}
 use Rattle.caps.specs.Stretches.{Stretch, whole, top_place, top}
 use Rattle.caps.specs.Caps.{cap, ceiling, floor}
 use Rattle.caps.specs.Gaps.{IsGap, gaps, Ascending, LowestAbove}
 use Rattle.caps.specs.Outlooks.{is_settled, lowest_open}
-use Rattle.caps.proofs.Lists.{all_zip, parts, order_after}
+use Rattle.caps.proofs.Lists.{parts, order_after}
 use Rattle.caps.proofs.Peaks.{top_peak, top_above}
 use Rattle.caps.proofs.Gaps.{each_is_a_gap, gaps_ascend}
 use Rattle.caps.proofs.Highest.{by_gaps, under}
@@ -31,7 +31,7 @@ module _ (line : Line) (a : Touch) (ts : List Touch) (on : OnLine line (a ∷ ts
       let e : le_z (ceiling line (a ∷ ts)) z ≡ true = grind (arith, ints) in
       sym (simp e)
   open_at z f (Some g) h =
-      let at = (parts (IsGap line (a ∷ ts)) h.before g h.after (subst (All (IsGap line (a ∷ ts))) h.there (each_is_a_gap line (a ∷ ts) on))).1 in
+      let at = (parts (IsGap line (a ∷ ts)) h.before g h.after (subst (AllByRecursion (IsGap line (a ∷ ts))) h.there (each_is_a_gap line (a ∷ ts) on))).1 in
       let p = top_peak F g at.some in
       let c = top_above F (whole line) (top_place F g) (omega arith) (omega (arith, p.high, at.within)) in
       let b = h.above in
@@ -53,13 +53,13 @@ module _ (line : Line) (a : Touch) (ts : List Touch) (on : OnLine line (a ∷ ts
   })
     where
       at : IsGap line (a ∷ ts) k
-      at = (parts (IsGap line (a ∷ ts)) h.before k h.after (subst (All (IsGap line (a ∷ ts))) h.there (each_is_a_gap line (a ∷ ts) on))).1
+      at = (parts (IsGap line (a ∷ ts)) h.before k h.after (subst (AllByRecursion (IsGap line (a ∷ ts))) h.there (each_is_a_gap line (a ∷ ts) on))).1
 
       W : Stretch → Type 0
       W j = (top F j ≤ℤ z) ⊎ (k.from ≤ j.from)
 
-      whole_list : All W gs
-      whole_list = subst (All W) (sym h.there)
+      whole_list : AllByRecursion W gs
+      whole_list = subst (AllByRecursion W) (sym h.there)
           (All-append W h.before (k ∷ h.after)
           (All-weaker (λ j. top F j ≤ℤ z) W (λ j l. inl l) h.before h.under) (
             inr (omega arith),

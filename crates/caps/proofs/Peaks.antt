@@ -1,20 +1,20 @@
 -- The lowest place of the largest value over a stretch.
-use Rattle.std.proofs.Common.{◌≡◌, ℕ, ◌+◌, ◌-◌, ◌<◌, ◌≤◌, ◌⊎◌, List, [], ◌∷◌, ℤ, ◌+ℤ◌, ◌≤ℤ◌, ◌<ℤ◌, sym, refl, ap, ◌∙◌, subst, ⊎_elim, arith}
+use Rattle.std.proofs.Common.{◌≡◌, ℕ, ◌+◌, ◌-◌, ◌<◌, ◌≤◌, ℤ, ◌+ℤ◌, ◌≤ℤ◌, ◌<ℤ◌, sym, ap, ◌∙◌, subst, ⊎_elim, arith}
 use borrow.Author.Differences.{ints}
-use Rattle.std.specs.List.{AllByRecursion as All}
+use Rattle.std.specs.List.{AllByRecursion}
 use Rattle.std.proofs.lemmas.Bool.{cases_order, cases_eq}
-use Rattle.pick.specs.Picks.{picked, first_highest, Leads}
+use Rattle.pick.specs.Picks.{Leads}
 use Rattle.pick.proofs.Computed.{picked_picks}
 use Rattle.caps.specs.declared.Summit.{Summit}
 use Rattle.caps.specs.Touches.{InOrder}
-use Rattle.caps.specs.Stretches.{Stretch, later, positions, top_place, top, marked, summit_of, Peak}
+use Rattle.caps.specs.Stretches.{Stretch, positions, top_place, top, marked, summit_of, Peak}
 use Rattle.caps.proofs.Lists.{counting_all, all_counting, counting_climbs, leads_tops, leads_has}
 
 -- What holds of each position of a stretch.
-pub positions_all : (P : ℕ → Type 0) (s : Stretch) → s.from ≤ s.to → ((x : ℕ) → s.from ≤ x → x ≤ s.to → P x) → All P (positions s)
+pub positions_all : (P : ℕ → Type 0) (s : Stretch) → s.from ≤ s.to → ((x : ℕ) → s.from ≤ x → x ≤ s.to → P x) → AllByRecursion P (positions s)
 positions_all P s h k = (k s.from (omega arith) h, counting_all P (s.from + 1) (s.to - s.from) (λ x l m. k x (omega arith) (omega arith)))
 
-pub all_positions : (P : ℕ → Type 0) (s : Stretch) → All P (positions s) → (x : ℕ) → s.from ≤ x → x ≤ s.to → P x
+pub all_positions : (P : ℕ → Type 0) (s : Stretch) → AllByRecursion P (positions s) → (x : ℕ) → s.from ≤ x → x ≤ s.to → P x
 all_positions P s h x l m = ⊎_elim (λ e. subst P e h.0) (λ ne. all_counting P (s.from + 1) (s.to - s.from) h.1 x (omega arith) (omega arith)) (cases_eq s.from x)
 
 pub positions_climb : (s : Stretch) → InOrder ◌<◌ (positions s)

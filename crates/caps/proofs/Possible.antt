@@ -1,16 +1,16 @@
 -- The caps are the greatest possible sheet.
-use Rattle.std.proofs.Common.{◌≡◌, ℕ, zero, suc, ◌+◌, ◌-◌, ◌*◌, ◌<◌, ◌≤◌, true, cond, eqb, ◌≢◌, ◌⊎◌, ◌↔◌, List, [], ◌∷◌, map, length, get_or, ℤ, pos, ◌+ℤ◌, ◌≤ℤ◌, ◌<ℤ◌, sym, refl, ap, ◌∙◌, inl, inr, ⊎_elim, arith}
+use Rattle.std.proofs.Common.{◌≡◌, ℕ, zero, suc, ◌+◌, ◌-◌, ◌<◌, ◌≤◌, true, ◌≢◌, ◌⊎◌, ◌↔◌, List, [], ◌∷◌, get_or, ℤ, pos, ◌+ℤ◌, ◌≤ℤ◌, sym, refl, ap, ◌∙◌, inl, inr, ⊎_elim, arith}
 use lib.Signed.{le_z}
 use borrow.Author.Differences.{ints}
-use Rattle.std.specs.List.{range_with_len, AllByRecursion as All}
+use Rattle.std.specs.List.{AllByRecursion}
 use Rattle.std.proofs.ByRecursion.{All-weaker}
 use Rattle.std.proofs.lemmas.Bool.{cases_eq, eq-eqb, ne_eqb, cond-true, cond-false}
 use Rattle.std.proofs.lemmas.List.FromFn.{length-map-range_with_len, get_or-map-range_with_len}
-use Rattle.terms.specs.Meaning.{distance, Keeps}
+use Rattle.terms.specs.Meaning.{Keeps}
 use Rattle.caps.specs.declared.Touch.{Touch}
 use Rattle.caps.specs.declared.Line.{Line}
-use Rattle.caps.specs.Touches.{Rising, OnLine, Agree, LawfulTouches, Untouched}
-use Rattle.caps.specs.Stretches.{Stretch, whole, positions}
+use Rattle.caps.specs.Touches.{Rising, Agree, LawfulTouches, Untouched}
+use Rattle.caps.specs.Stretches.{whole}
 use Rattle.caps.specs.Caps.{least, height_or, reach, cap, ceiling, floor, sheet_of_caps, Possible, NoneAbove}
 use Rattle.caps.specs.Outlooks.{is_settled}
 use Rattle.caps.proofs.Lists.{all_zip}
@@ -20,7 +20,7 @@ use Rattle.caps.proofs.Room.{room, room_self, room_apart, room_same, room_tri, r
 use Rattle.caps.proofs.Peaks.{top_above, above_top}
 
 -- x is touched, at a touch that has whatever every touch has, or untouched.
-pub touched_or : (P : Touch → Type 0) (ts : List Touch) (x : ℕ) (z : ℤ) → All P ts →
+pub touched_or : (P : Touch → Type 0) (ts : List Touch) (x : ℕ) (z : ℤ) → AllByRecursion P ts →
     ((t : Touch) × P t × (t.position ≡ x) × (height_or ts x z ≡ t.height)) ⊎ (Untouched ts x × (height_or ts x z ≡ z))
 touched_or P [] x z h = inr (tt, refl)
 touched_or P (t ∷ ts) x z h =
@@ -34,11 +34,11 @@ touched_or P (t ∷ ts) x z h =
 abbrev One : Touch → Touch → Type 0
 One t u = t.position ≡ u.position → t.height ≡ u.height
 
-one_each : (ts : List Touch) → Rising ts → All (λ t. All (One t) ts) ts
+one_each : (ts : List Touch) → Rising ts → AllByRecursion (λ t. AllByRecursion (One t) ts) ts
 one_each [] r = tt
 one_each (t ∷ ts) r = (
   (λ e. refl, All-weaker (λ u. t.position < u.position) (One t) (λ u l e. absurd (omega arith)) ts r.0),
-  all_zip (λ u. t.position < u.position) (λ u. All (One u) ts) (λ u. All (One u) (t ∷ ts)) (λ u l q. ((λ e. absurd (omega arith)), q)) ts r.0 (one_each ts r.1),
+  all_zip (λ u. t.position < u.position) (λ u. AllByRecursion (One u) ts) (λ u. AllByRecursion (One u) (t ∷ ts)) (λ u l q. ((λ e. absurd (omega arith)), q)) ts r.0 (one_each ts r.1),
 )
 
 module _ (line : Line) where
@@ -49,9 +49,9 @@ module _ (line : Line) where
   keeps_room x y g h k one =
       ⊎_elim (λ e. let s = one e in omega (arith, ints)) (λ n. omega (arith, ints, room_apart line.slope line.slack x y n, room_same line.slope line.slack x y)) (cases_eq x y)
 
-  touches_room : (ts : List Touch) → LawfulTouches line ts → All (λ t. All (λ u. t.height ≤ℤ from R t.position u) ts) ts
+  touches_room : (ts : List Touch) → LawfulTouches line ts → AllByRecursion (λ t. AllByRecursion (λ u. t.height ≤ℤ from R t.position u) ts) ts
   touches_room ts h =
-      all_zip (λ t. All (Agree line t) ts) (λ t. All (One t) ts) (λ t. All (λ u. t.height ≤ℤ from R t.position u) ts)
+      all_zip (λ t. AllByRecursion (Agree line t) ts) (λ t. AllByRecursion (One t) ts) (λ t. AllByRecursion (λ u. t.height ≤ℤ from R t.position u) ts)
       (λ t k o. all_zip (Agree line t) (One t) (λ u. t.height ≤ℤ from R t.position u)
       (λ u k o. keeps_room t.position u.position t.height u.height k o) ts k o)
       ts h.lawful (one_each ts h.on_line.rising)
@@ -66,7 +66,7 @@ module _ (line : Line) where
     tri : (x y z : ℕ) → R x z ≤ R x y + R y z
     tri = room_tri line.slope line.slack
 
-    at_touches : All (λ t. extension R a ts t.position ≡ t.height) (a ∷ ts)
+    at_touches : AllByRecursion (λ t. extension R a ts t.position ≡ t.height) (a ∷ ts)
     at_touches = extension_at R self same tri a ts (touches_room (a ∷ ts) touches)
 
     -- The caps are the extension of the touches.

@@ -1,7 +1,7 @@
 -- Caps, the ceiling and the floor, and the sheets that the touches leave possible.
 use Rattle.std.specs.Prelude.{◌≡◌, ℕ, ◌+◌, ◌-◌, ◌*◌, ◌/◌, ◌≤◌, cond, List, [], ◌∷◌, map, length, ℤ, pos, ◌+ℤ◌, ◌≤ℤ◌, ◌==◌, slice_index_or}
 use Rattle.std.specs.Int.{int_min}
-use Rattle.std.specs.List.{ContainsAt as Has, AllByRecursion as All}
+use Rattle.std.specs.List.{ContainsAt as Has, AllByRecursion}
 use Rattle.pick.specs.Picks.{first_highest}
 use Rattle.terms.specs.Meaning.{distance, Keeps}
 use Rattle.caps.specs.declared.Touch.{Touch}
@@ -40,8 +40,8 @@ floor a ts = first_highest (λ t. t.height) a ts
 -- t is a touch, no touched height is above its height, and no touch at a lower position has the same
 pub record IsFloor (ts : List Touch) (t : Touch) : Type 0 where
   pub touched : Has ts t
-  pub highest : All (λ u. u.height ≤ℤ t.height) ts
-  pub lowest : All (λ u. u.height ≡ t.height → t.position ≤ u.position) ts
+  pub highest : AllByRecursion (λ u. u.height ≤ℤ t.height) ts
+  pub lowest : AllByRecursion (λ u. u.height ≡ t.height → t.position ≤ u.position) ts
 
 -- the caps of positions 0 to last
 abbrev pub sheet_of_caps : Line → List Touch → List ℤ
@@ -51,7 +51,7 @@ sheet_of_caps line ts = map (cap line ts) (positions (whole line))
 -- The limits of heights do not bind it.
 pub record Possible (line : Line) (ts : List Touch) (sheet : List ℤ) : Type 0 where
   pub long : length sheet ≡ line.last + 1
-  pub touched : All (λ t. slice_index_or sheet t.position (pos 0) ≡ t.height) ts
+  pub touched : AllByRecursion (λ t. slice_index_or sheet t.position (pos 0) ≡ t.height) ts
   pub lawful : (x y : ℕ) → x ≤ line.last → y ≤ line.last → Keeps line.slope line.slack x y (slice_index_or sheet x (pos 0)) (slice_index_or sheet y (pos 0))
 
 -- no possible sheet has a height above z

@@ -1,7 +1,7 @@
 -- What holds of caps, of gaps and of one more touch.
-use Rattle.std.specs.Prelude.{◌≡◌, ℕ, ◌+◌, ◌/◌, ◌<◌, ◌≤◌, true, false, not, ◌↔◌, List, [], ◌∷◌, ◌++◌, length, ℤ, pos, ◌+ℤ◌, ◌≤ℤ◌, ◌<ℤ◌, is_some, Some, None, Option, slice_index_or}
+use Rattle.std.specs.Prelude.{◌≡◌, ℕ, ◌<◌, ◌≤◌, true, false, not, ◌↔◌, List, ◌∷◌, ◌++◌, length, ℤ, pos, ◌+ℤ◌, ◌≤ℤ◌, ◌<ℤ◌, is_some, Some, None, Option, slice_index_or}
 use Rattle.std.specs.Int.{int_max}
-use Rattle.std.specs.List.{ContainsAt as Has, AllByRecursion as All}
+use Rattle.std.specs.List.{ContainsAt as Has, AllByRecursion}
 use Rattle.terms.specs.Meaning.{distance}
 use Rattle.caps.specs.declared.Touch.{Touch}
 use Rattle.caps.specs.declared.Line.{Line}
@@ -29,11 +29,11 @@ pub record LawsOfCaps : Type 0 where
       (is_settled line (a ∷ ts) tolerance ≡ true) ↔ NoneAbove line (a ∷ ts) ((floor a ts).height +ℤ pos tolerance)
   -- a position whose cap exceeds floor + tolerance is at least d from every touch
   pub high_cap_is_far : (line : Line) (a : Touch) (ts : List Touch) (tolerance : ℕ) → 1 ≤ line.slope → LawfulTouches line (a ∷ ts) →
-      (x : ℕ) → ((floor a ts).height +ℤ pos tolerance) <ℤ cap line (a ∷ ts) x → All (λ t. spacing line tolerance ≤ distance t.position x) (a ∷ ts)
+      (x : ℕ) → ((floor a ts).height +ℤ pos tolerance) <ℤ cap line (a ∷ ts) x → AllByRecursion (λ t. spacing line tolerance ≤ distance t.position x) (a ∷ ts)
   -- d is 1 where the slack exceeds the tolerance
   pub spacing_of_one : (line : Line) (tolerance : ℕ) → 1 ≤ line.slope → tolerance ≤ line.slack → spacing line tolerance ≡ 1
   -- positions of 0 to last that lie pairwise d apart number at most last / d + 1
-  pub few_lie_apart : (line : Line) (tolerance : ℕ) (ps : List ℕ) → All (λ p. p ≤ line.last) ps → Apart (spacing line tolerance) ps →
+  pub few_lie_apart : (line : Line) (tolerance : ℕ) (ps : List ℕ) → AllByRecursion (λ p. p ≤ line.last) ps → Apart (spacing line tolerance) ps →
       length ps ≤ most_touches line tolerance
 
 -- the larger of z and the summit's cap
@@ -44,7 +44,7 @@ over z (Some s) = int_max z s.cap
 -- The gaps that touches leave, their largest caps, and what follows for floor and ceiling.
 pub record LawsOfGaps : Type 0 where
   -- each of the gaps is a run of untouched positions that no neighbouring untouched position extends
-  pub each_is_a_gap : (line : Line) (ts : List Touch) → OnLine line ts → All (IsGap line ts) (gaps line ts)
+  pub each_is_a_gap : (line : Line) (ts : List Touch) → OnLine line ts → AllByRecursion (IsGap line ts) (gaps line ts)
   -- each such run is among the gaps
   pub no_gap_is_missing : (line : Line) (ts : List Touch) → OnLine line ts → (g : Stretch) → IsGap line ts g → Has (gaps line ts) g
   -- the gaps stand in rising order
@@ -54,15 +54,15 @@ pub record LawsOfGaps : Type 0 where
       (g : Stretch) × Has (gaps line ts) g × (g.from ≤ x) × (x ≤ g.to)
   -- with touches on both sides the largest cap lies beside the crossing, at its higher whole neighbour, kept within the gap
   pub largest_beside_the_crossing : (line : Line) (g : Stretch) (a : Touch) (ls : List Touch) (b : Touch) (rs : List Touch) → 1 ≤ line.slope → g.from ≤ g.to →
-      All (λ t. t.position < g.from) (a ∷ ls) → All (λ t. g.to < t.position) (b ∷ rs) →
+      AllByRecursion (λ t. t.position < g.from) (a ∷ ls) → AllByRecursion (λ t. g.to < t.position) (b ∷ rs) →
       top_place (cap line ((a ∷ ls) ++ (b ∷ rs))) g
       ≡ beside (roof line.slope (least (rise line.slope) a ls) (least (fall line.slope) b rs)) g.from g.to
       (crossing line.slope (least (rise line.slope) a ls) (least (fall line.slope) b rs))
   -- with touches on one side only it lies at the farthest position: left of all touches, and right of the last
   pub largest_before_all_touches : (line : Line) (g : Stretch) (b : Touch) (rs : List Touch) → 1 ≤ line.slope → g.from ≤ g.to →
-      All (λ t. g.to < t.position) (b ∷ rs) → top_place (cap line (b ∷ rs)) g ≡ g.from
+      AllByRecursion (λ t. g.to < t.position) (b ∷ rs) → top_place (cap line (b ∷ rs)) g ≡ g.from
   pub largest_after_all_touches : (line : Line) (g : Stretch) (a : Touch) (ls : List Touch) → 1 ≤ line.slope → g.from ≤ g.to →
-      All (λ t. t.position < g.from) (a ∷ ls) → top_place (cap line (a ∷ ls)) g ≡ g.to
+      AllByRecursion (λ t. t.position < g.from) (a ∷ ls) → top_place (cap line (a ∷ ls)) g ≡ g.to
   -- the first gap of highest largest cap holds the lowest untouched position of largest cap
   pub high_lies_in_the_highest_gap : (line : Line) (a : Touch) (ts : List Touch) → OnLine line (a ∷ ts) →
       high_summit line (a ∷ ts) ≡ mapped (summit_of (cap line (a ∷ ts))) (highest_gap line (a ∷ ts))
@@ -92,14 +92,14 @@ pub record NoWorse (line : Line) (ts us : List Touch) (o : Outlook) : Type 0 whe
 pub record MayTouch (line : Line) (u : Touch) (ts : List Touch) : Type 0 where
   pub within : u.position ≤ line.last
   pub free : Untouched ts u.position
-  pub lawful : All (λ t. Agree line t u) ts
+  pub lawful : AllByRecursion (λ t. Agree line t u) ts
 
 -- One more touch u beside the touches ts.
 pub record LawsOfOneMore : Type 0 where
   -- lawful touches stay lawful
   pub stays_lawful : (line : Line) (u : Touch) (ts : List Touch) → LawfulTouches line ts → MayTouch line u ts → LawfulTouches line (insert u ts)
   -- it and every earlier touch are there
-  pub every_touch_stays : (u : Touch) (ts : List Touch) → All (Has (insert u ts)) (u ∷ ts)
+  pub every_touch_stays : (u : Touch) (ts : List Touch) → AllByRecursion (Has (insert u ts)) (u ∷ ts)
   -- it raises no cap and no ceiling and lowers no floor
   pub never_worse : (line : Line) (u : Touch) (ts : List Touch) (o : Outlook) → LawfulTouches line ts → MayTouch line u ts → outlook line ts ≡ Some o →
       NoWorse line ts (insert u ts) o

@@ -1,6 +1,6 @@
 -- The place of a touch among others, and the test of a table of touches.
 use Rattle.std.specs.Prelude.{ℕ, suc, ◌≤◌, cond, List, [], ◌∷◌, nat_lt}
-use Rattle.std.specs.List.{AllByRecursion as All}
+use Rattle.std.specs.List.{AllByRecursion}
 use Rattle.terms.specs.Meaning.{Height}
 use Rattle.caps.specs.declared.Touch.{Touch}
 use Rattle.caps.specs.declared.Line.{Line}
@@ -19,6 +19,6 @@ pub record Follows (line : Line) (from : ℕ) (t : Touch) : Type 0 where
 
 -- touches of the line at `from` or after, their heights within the limits
 pub record AllFollow (line : Line) (from : ℕ) (ts : List Touch) : Type 0 where
-  pub after : All (λ t. from ≤ t.position) ts
+  pub after : AllByRecursion (λ t. from ≤ t.position) ts
   pub on_line : OnLine line ts
-  pub heights : All (λ t. Height t.height) ts
+  pub heights : AllByRecursion (λ t. Height t.height) ts

@@ -1,6 +1,6 @@
 -- The touches of a line.
 use Rattle.std.specs.Prelude.{ℕ, ◌<◌, ◌≤◌, Bool, true, false, cond, ◌≢◌, List, [], ◌∷◌, length, ◌==◌, nat_lt}
-use Rattle.std.specs.List.{AllByRecursion as All}
+use Rattle.std.specs.List.{AllByRecursion}
 use Rattle.terms.specs.Limits.{last_max, slope_max, slack_max, touches_max}
 use Rattle.terms.specs.Meaning.{Keeps, Height}
 use Rattle.caps.specs.declared.Touch.{Touch}
@@ -9,7 +9,7 @@ use Rattle.caps.specs.declared.Line.{Line}
 -- each item stands in the relation R to every later one
 abbrev pub InOrder : {X : Type 0} → (X → X → Type 0) → List X → Type 0
 InOrder R [] = Unit {0}
-InOrder R (x ∷ xs) = All (R x) xs × InOrder R xs
+InOrder R (x ∷ xs) = AllByRecursion (R x) xs × InOrder R xs
 
 -- each touch lies below those after it
 abbrev pub Rising : List Touch → Type 0
@@ -17,7 +17,7 @@ Rising ts = InOrder (λ t u. t.position < u.position) ts
 
 -- touches of the line, in rising order of position
 pub record OnLine (line : Line) (ts : List Touch) : Type 0 where
-  pub within : All (λ t. t.position ≤ line.last) ts
+  pub within : AllByRecursion (λ t. t.position ≤ line.last) ts
   pub rising : Rising ts
 
 -- the two touches keep the law of the line
@@ -27,7 +27,7 @@ Agree line t u = Keeps line.slope line.slack t.position u.position t.height u.he
 -- touches of the line, any two of which keep the law
 pub record LawfulTouches (line : Line) (ts : List Touch) : Type 0 where
   pub on_line : OnLine line ts
-  pub lawful : All (λ t. All (Agree line t) ts) ts
+  pub lawful : AllByRecursion (λ t. AllByRecursion (Agree line t) ts) ts
 
 -- whether x is touched
 abbrev pub is_touched : List Touch → ℕ → Bool
@@ -36,7 +36,7 @@ is_touched (t ∷ ts) x = cond (t.position == x) true (is_touched ts x)
 
 -- x is not touched
 abbrev pub Untouched : List Touch → ℕ → Type 0
-Untouched ts x = All (λ t. t.position ≢ x) ts
+Untouched ts x = AllByRecursion (λ t. t.position ≢ x) ts
 
 -- the touches with u put in at its place in rising order
 abbrev pub insert : Touch → List Touch → List Touch
@@ -55,5 +55,5 @@ pub record WithinLimits (line : Line) : Type 0 where
 pub record Sound (line : Line) (ts : List Touch) : Type 0 where
   pub limits : WithinLimits line
   pub on_line : OnLine line ts
-  pub heights : All (λ t. Height t.height) ts
+  pub heights : AllByRecursion (λ t. Height t.height) ts
   pub few : length ts ≤ touches_max

@@ -1,6 +1,6 @@
 -- The touches of a certificate: their fields fit, and read as they are.
 use Rattle.std.proofs.Common.{◌≡◌, ℕ, zero, suc, ◌+◌, ◌*◌, ◌/◌, ◌<◌, ◌≤◌, List, [], ◌∷◌, ◌++◌, length, get_or, drop, pos, IfSome, Some, None, Option, sym, refl, ap, ◌∙◌, subst, arith}
-use Rattle.std.specs.List.{AllByRecursion as All}
+use Rattle.std.specs.List.{AllByRecursion}
 use Rattle.fields.specs.Bits.{Field, bits_of, width_of, num, Fit, Reads, complement_of, packed}
 use Rattle.fields.proofs.Signs.{complement_lt}
 use Rattle.fields.proofs.Packs.{bits_of_lt}
@@ -18,7 +18,7 @@ use Rattle.certificates.proofs.Heads.{HeadFits, own}
 abbrev nowhere : Touch
 nowhere = record { position = 0; height = pos 0 }
 
-pub touches_fit : (ts : List Touch) → All (λ t. t.position ≤ 4000) ts → Fit (touch_fields ts)
+pub touches_fit : (ts : List Touch) → AllByRecursion (λ t. t.position ≤ 4000) ts → Fit (touch_fields ts)
 touches_fit [] a = tt
 touches_fit (t ∷ ts) a = (omega (arith, a.0), (complement_lt 16 t.height, touches_fit ts a.1))
 
@@ -38,7 +38,7 @@ read_at b a (t ∷ ts) r (suc k) l =
     let s = read_at b (a + 12 + 16) ts r.1.1 k (omega arith) in
     (ap (λ n. num b n 12) e ∙ s.0, ap (λ n. num b (n + 12) 16) e ∙ s.1)
 
-module _ (line : Line) (tolerance : ℕ) (ts : List Touch) (o : Outlook) (fits : HeadFits line tolerance (length ts) o) (low : All (λ t. t.position ≤ 4000) ts) where
+module _ (line : Line) (tolerance : ℕ) (ts : List Touch) (o : Outlook) (fits : HeadFits line tolerance (length ts) o) (low : AllByRecursion (λ t. t.position ≤ 4000) ts) where
   abbrev fs : List Field
   fs = certificate_fields line tolerance ts o
 
@@ -67,6 +67,6 @@ pub told_within : (line : Line) (ts : List Touch) → Sound line ts → (r : Opt
 told_within line ts s None e = tt
 told_within line ts s (Some o) e = floor_within line ts s o (sym e)
 
-pub all_low : (last : ℕ) (ts : List Touch) → last ≤ 4000 → All (λ t. t.position ≤ last) ts → All (λ t. t.position ≤ 4000) ts
+pub all_low : (last : ℕ) (ts : List Touch) → last ≤ 4000 → AllByRecursion (λ t. t.position ≤ last) ts → AllByRecursion (λ t. t.position ≤ 4000) ts
 all_low last [] l a = tt
 all_low last (t ∷ ts) l a = (omega (arith, a.0), all_low last ts l a.1)

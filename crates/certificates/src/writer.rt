@@ -1,5 +1,5 @@
 ghost use Rattle.std.specs.Prelude.{◌≡◌, ℕ, ◌+◌, ◌*◌, ◌/◌, ◌<◌, ◌≤◌, ◌++◌, length, drop, IfSome, IfOk, Ok, OnOk};
-ghost use Rattle.std.specs.List.{AllByRecursion as All};
+ghost use Rattle.std.specs.List.{AllByRecursion};
 ghost use Rattle.terms.specs.Limits.{last_max};
 ghost use Rattle.caps.specs.Touches.{Sound, WithinLimits};
 ghost use Rattle.caps.specs.Outlooks.{outlook};
@@ -133,7 +133,7 @@ fn write_touch(buf: &mut [u8], place: usize, touch: Touch)
 
 // Writes the touches after the head.
 fn write_touches(buf: &mut [u8], touches: &[Touch])
-    requires fits { (All (λ t. t.position ≤ last_max) touches.now) × (length touches.now ≤ 256) }
+    requires fits { (AllByRecursion (λ t. t.position ≤ last_max) touches.now) × (length touches.now ≤ 256) }
     requires room { 98 + 28 * length touches.now ≤ 8 * length buf.old }
     ensures { TouchesWritten (length touches.now) touches.now buf.old buf.new }
 {

@@ -1,11 +1,11 @@
 -- The lines of an input, one after another.
-use Rattle.std.proofs.Common.{◌≡◌, ℕ, suc, ◌+◌, ◌-◌, ◌<◌, ◌≤◌, true, false, cond, not, eqb, List, [], ◌∷◌, length, get_or, take, drop, filter, sym, refl, ap, ◌∙◌, ⊎_elim, add-zero, arith, length-drop}
+use Rattle.std.proofs.Common.{◌≡◌, ℕ, suc, ◌+◌, ◌-◌, ◌<◌, ◌≤◌, true, not, eqb, List, [], ◌∷◌, length, get_or, take, drop, filter, sym, refl, ap, ◌∙◌, ⊎_elim, add-zero, arith, length-drop}
 use Rattle.std.proofs.lemmas.List.{at_drop_more, at_drop_all, drop-drop, length-take-le}
 use Rattle.std.proofs.lemmas.Bool.{eq-eqb, ne_eqb, cond-true, cases_Bool}
 use Rattle.std.proofs.lemmas.Slice.{between_to_end}
 use Rattle.commands.proofs.Cuts.{before_next}
 use Rattle.commands.specs.Pieces.{Piece}
-use Rattle.commands.specs.Lines.{line_end, Cut, cut, all_lines, is_some, lines_at, lines_from, before, IsNext}
+use Rattle.commands.specs.Lines.{line_end, Cut, cut, is_some, lines_at, lines_from, before, IsNext}
 
 abbrev pub part_at : List ℕ → ℕ → Piece
 part_at bs p = record { bytes = bs; place = p }

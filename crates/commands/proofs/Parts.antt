@@ -1,5 +1,5 @@
 -- The words of a line that stands in the input stand in it too.
-use Rattle.std.proofs.Common.{◌≡◌, ℕ, ◌+◌, ◌-◌, ◌≤◌, eqb, List, [], ◌∷◌, map, length, take, drop, Some, None, codes, Option, sym, ap, ◌∙◌, subst, ⊎_elim, add_assoc, arith, length-drop}
+use Rattle.std.proofs.Common.{◌≡◌, ℕ, ◌+◌, ◌-◌, eqb, List, [], ◌∷◌, map, length, take, drop, Some, None, codes, Option, sym, ap, ◌∙◌, subst, ⊎_elim, add_assoc, arith, length-drop}
 use Rattle.std.specs.Str.{bytes_eq}
 use Rattle.std.proofs.lemmas.List.{drop-drop, length-take-le, take-take, take_all}
 use Rattle.std.proofs.lemmas.Slice.{between_is}

@@ -1,5 +1,5 @@
 -- A line as the code takes it apart.
-use Rattle.std.proofs.Common.{◌≡◌, ℕ, eqb, length, Some, None, Option, sym, ap, ◌∙◌}
+use Rattle.std.proofs.Common.{◌≡◌, ℕ, eqb, length, Some, Option, sym, ap, ◌∙◌}
 use Rattle.std.proofs.lemmas.Bool.{ne_eqb, cond-false}
 use Rattle.commands.specs.Pieces.{Piece}
 use Rattle.commands.specs.Lines.{space, before}

@@ -1,5 +1,5 @@
 -- A line makes a call exactly where it is written so.
-use Rattle.std.proofs.Common.{◌≡◌, ℕ, zero, suc, ◌+◌, ◌^◌, ◌<◌, ◌≤◌, Bool, true, false, cond, ◌&&◌, eqb, leb, List, [], ◌∷◌, ◌++◌, length, take, drop, Some, None, codes, decimal, Option, sym, refl, ap, ◌∙◌, subst, ⊎_elim, arith}
+use Rattle.std.proofs.Common.{◌≡◌, ℕ, suc, ◌+◌, ◌^◌, ◌<◌, ◌≤◌, true, false, ◌&&◌, eqb, leb, List, [], ◌∷◌, ◌++◌, length, take, drop, Some, None, codes, decimal, Option, sym, refl, ap, ◌∙◌, subst, ⊎_elim, arith}
 use Rattle.std.specs.Str.{bytes_eq, all_ascii_digits}
 use Rattle.std.proofs.lemmas.Fmt.{digits_decimal, digits_value-decimal, length-decimal-le, decimal_nonempty}
 use Rattle.std.proofs.lemmas.Slice.Eq.{bytes_eq-Decides}
@@ -8,7 +8,7 @@ use Rattle.surveys.specs.declared.calls.Call.{Call}
 use Rattle.surveys.specs.declared.calls.Call.TheVariants.{High, Left, At, Run, Tol, Ask}
 use Rattle.commands.specs.Pieces.{Piece}
 use Rattle.commands.specs.Lines.{space, before}
-use Rattle.commands.specs.Orders.{Order, high, left, ask, at, run, tol, unknown, value, is_number, number_of, alone, numbered, perhaps_numbered, before_space, after_space, spaced, order_of, call_of}
+use Rattle.commands.specs.Orders.{Order, high, left, ask, at, run, tol, unknown, value, is_number, alone, numbered, perhaps_numbered, before_space, after_space, spaced, order_of, call_of}
 use Rattle.commands.specs.Theorems.{Numbered, Written, CallsAsWritten, NumbersReadBack}
 use Rattle.commands.proofs.Lines.{part_at}
 use Rattle.commands.proofs.Numbers.{by_weight}

@@ -1,6 +1,6 @@
 -- What the lines of an input and their calls come to, in words of their own.
 use Rattle.std.specs.Prelude.{◌≡◌, ℕ, ◌<◌, ◌≤◌, true, ◌↔◌, List, ◌∷◌, ◌++◌, map, length, Some, codes, decimal}
-use Rattle.std.specs.List.{join_with_byte, AllByRecursion as All}
+use Rattle.std.specs.List.{join_with_byte, AllByRecursion}
 use Rattle.std.specs.Str.Iter.{LacksByte}
 use Rattle.std.specs.Str.{all_ascii_digits}
 use Rattle.surveys.specs.declared.calls.Call.{Call}
@@ -14,9 +14,9 @@ pub record AreLines (input : List ℕ) (ls : List Piece) : Type 0 where
   -- put together again with a line end between each two they are the input
   pub together : join_with_byte line_end (map (λ l. l.bytes) ls) ≡ input
   -- no line has a line end in it
-  pub whole : All (λ l. LacksByte line_end l.bytes) ls
+  pub whole : AllByRecursion (λ l. LacksByte line_end l.bytes) ls
   -- each has the bytes that the input has at its place
-  pub stand : All (StandsIn input) ls
+  pub stand : AllByRecursion (StandsIn input) ls
 
 abbrev pub LinesAreTheInput : Type 0
 LinesAreTheInput = (input : List ℕ) → AreLines input (all_lines 0 input)

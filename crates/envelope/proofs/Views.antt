@@ -8,10 +8,10 @@ use Rattle.caps.specs.declared.Line.{Line}
 use Rattle.caps.specs.declared.Summit.{Summit}
 use Rattle.caps.specs.declared.Outlook.{Outlook}
 use Rattle.caps.specs.Touches.{Sound}
-use Rattle.caps.specs.Stretches.{Stretch, top, summit_of}
+use Rattle.caps.specs.Stretches.{summit_of}
 use Rattle.caps.specs.Caps.{cap, ceiling, floor}
-use Rattle.caps.specs.Gaps.{gaps, mapped, high_summit, highest_gap, summit_above}
-use Rattle.caps.specs.Outlooks.{floor_touch, seen, outlook, open_summit}
+use Rattle.caps.specs.Gaps.{gaps, mapped, high_summit, summit_above}
+use Rattle.caps.specs.Outlooks.{floor_touch, outlook, open_summit}
 use Rattle.caps.specs.Laws.{over}
 use Rattle.caps.proofs.Highest.{high_lies_in_the_highest_gap, ceiling_is_floor_or_highest}
 use Rattle.envelope.specs.Walks.{summits}

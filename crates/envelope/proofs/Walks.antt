@@ -1,8 +1,8 @@
 -- What a walk over the gaps tells.
-use Rattle.std.proofs.Common.{◌≡◌, ℕ, ◌+◌, ◌-◌, ◌*◌, ◌<◌, ◌≤◌, ltb, leb, ◌⊎◌, List, [], ◌∷◌, ◌++◌, map, length, get_or, take, drop, ℤ, pos, ◌+ℤ◌, ◌-ℤ◌, nat_abs, ◌≤ℤ◌, ◌<ℤ◌, Some, None, Option, sym, refl, ap, ◌∙◌, subst, ⊎_elim, arith, length-drop, take-append-drop, length-take-le}
+use Rattle.std.proofs.Common.{◌≡◌, ℕ, ◌+◌, ◌-◌, ◌*◌, ◌<◌, ◌≤◌, List, [], ◌∷◌, ◌++◌, map, length, get_or, take, drop, ℤ, pos, ◌+ℤ◌, ◌-ℤ◌, nat_abs, ◌≤ℤ◌, Some, Option, sym, refl, ap, ◌∙◌, subst, ⊎_elim, arith, length-drop, take-append-drop, length-take-le}
 use borrow.Author.Differences.{ints}
 use Rattle.std.specs.Int.{int_min}
-use Rattle.std.specs.List.{AllByRecursion as All}
+use Rattle.std.specs.List.{AllByRecursion}
 use Rattle.std.proofs.lemmas.List.{drop_more, drop_all, take_more, take_all}
 use Rattle.std.proofs.ByRecursion.{All-weaker, All-get_or, All-more, All-take, All-drop}
 use Rattle.std.proofs.lemmas.Bool.{cases_lt, cond-true, cond-false, lt-ltb, le-ltb, le-leb, lt-leb}
@@ -14,21 +14,20 @@ use Rattle.caps.specs.declared.Touch.{Touch}
 use Rattle.caps.specs.declared.Line.{Line}
 use Rattle.caps.specs.declared.Summit.{Summit}
 use Rattle.caps.specs.Touches.{Rising, Sound}
-use Rattle.caps.specs.Stretches.{Stretch, summit_of, Peak}
+use Rattle.caps.specs.Stretches.{summit_of, Peak}
 use Rattle.caps.specs.Caps.{cap}
-use Rattle.caps.specs.Gaps.{gaps_from}
 use Rattle.caps.specs.Crossings.{rise, fall, roof}
 use Rattle.caps.proofs.Lists.{all_zip, order-drop}
 use Rattle.caps.proofs.Peaks.{peak_moved, summit_is}
 use Rattle.caps.proofs.Crossings.{rising_peak, falling_peak}
-use Rattle.envelope.specs.Walks.{line_max, lowest, summits_from, strip_of, Falls, Walking}
+use Rattle.envelope.specs.Walks.{line_max, lowest, summits_from, strip_of, Walking}
 use Rattle.envelope.proofs.Lowest.{lowest_push, lowest-small}
 use Rattle.envelope.proofs.Roofs.{both_sides, left_side, right_side}
 
 -- The two lines of a touch fit well within 32 bits.
 module _ (line : Line) (ts : List Touch) (h : Sound line ts) where
   abbrev pub Small : (Touch → ℤ) → List Touch → Type 0
-  Small f us = All (λ t. nat_abs (f t) ≤ line_max) us
+  Small f us = AllByRecursion (λ t. nat_abs (f t) ≤ line_max) us
 
   pub lines_small : (t : Touch) → t.position ≤ line.last → Height t.height → (nat_abs (rise line.slope t) ≤ line_max) × (nat_abs (fall line.slope t) ≤ line_max)
   lines_small t l k =
@@ -47,7 +46,7 @@ module _ (line : Line) (ts : List Touch) (h : Sound line ts) where
       all_zip (λ t. t.position ≤ line.last) (λ t. Height t.height) (λ t. nat_abs (fall line.slope t) ≤ line_max)
       (λ t l k. (lines_small t l k).1) ts h.on_line.within h.heights
 
-  low : (f : Touch → ℤ) (us : List Touch) → Small f us → All (λ t. f t ≤ℤ pos 2147483647) us
+  low : (f : Touch → ℤ) (us : List Touch) → Small f us → AllByRecursion (λ t. f t ≤ℤ pos 2147483647) us
   low f us h = All-weaker (λ t. nat_abs (f t) ≤ line_max) (λ t. f t ≤ℤ pos 2147483647) (λ t k. omega (arith, ints)) us h
 
   -- One more place of the table, from the right.
@@ -67,16 +66,16 @@ module _ {line : Line} {ts : List Touch} {falls : List ℤ} {at from : ℕ} {lef
   join : L ++ R ≡ ts
   join = take-append-drop at ts
 
-  small_left : All (λ t. nat_abs (rise line.slope t) ≤ line_max) L
+  small_left : AllByRecursion (λ t. nat_abs (rise line.slope t) ≤ line_max) L
   small_left = All-take (λ t. nat_abs (rise line.slope t) ≤ line_max) at ts (rises_small line ts w.sound)
 
-  small_right : All (λ t. nat_abs (fall line.slope t) ≤ line_max) R
+  small_right : AllByRecursion (λ t. nat_abs (fall line.slope t) ≤ line_max) R
   small_right = All-drop (λ t. nat_abs (fall line.slope t) ≤ line_max) at ts (falls_small line ts w.sound)
 
-  low_left : All (λ t. rise line.slope t ≤ℤ pos 2147483647) L
+  low_left : AllByRecursion (λ t. rise line.slope t ≤ℤ pos 2147483647) L
   low_left = low line ts w.sound (rise line.slope) L small_left
 
-  low_right : All (λ t. fall line.slope t ≤ℤ pos 2147483647) R
+  low_right : AllByRecursion (λ t. fall line.slope t ≤ℤ pos 2147483647) R
   low_right = low line ts w.sound (fall line.slope) R small_right
 
   pub left_small : 0 < at → nat_abs left ≤ line_max
@@ -137,7 +136,7 @@ module _ {line : Line} {ts : List Touch} {falls : List ℤ} {at from : ℕ} {lef
       within = w.within;
       left_is = w.left_is;
       before = All-weaker (λ t. t.position < from) (λ t. t.position < line.last + 1) (λ t k. omega (arith, w.near)) L w.before;
-      after = subst (All (λ t. line.last + 1 ≤ t.position)) (sym (drop_all at ts all)) tt;
+      after = subst (AllByRecursion (λ t. line.last + 1 ≤ t.position)) (sym (drop_all at ts all)) tt;
       near = omega arith;
     }
 
@@ -152,8 +151,8 @@ module _ {line : Line} {ts : List Touch} {falls : List ℤ} {at from : ℕ} {lef
     pub t_within : t.position ≤ line.last
     t_within = All-get_or (λ u. u.position ≤ line.last) ts at d n w.sound.on_line.within
 
-    t_after : All (λ u. from ≤ u.position) (t ∷ drop (at + 1) ts)
-    t_after = subst (All (λ u. from ≤ u.position)) split w.after
+    t_after : AllByRecursion (λ u. from ≤ u.position) (t ∷ drop (at + 1) ts)
+    t_after = subst (AllByRecursion (λ u. from ≤ u.position)) split w.after
 
     t_rising : Rising (t ∷ drop (at + 1) ts)
     t_rising = subst Rising split (order-drop (λ t u. t.position < u.position) at ts w.sound.on_line.rising)
@@ -180,10 +179,10 @@ module _ {line : Line} {ts : List Touch} {falls : List ℤ} {at from : ℕ} {lef
     summits_skip h = ap (summits_from line ts from) split ∙ ap (map (summit_of f)) (cond-false _ _ _ (le-ltb from t.position h))
 
     module _ (gap : from < t.position) where
-      ahead_all : (x : ℕ) → x ≤ t.position - 1 → All (λ u. x < u.position) R
-      ahead_all x l = subst (All (λ u. x < u.position)) (sym split) (omega arith, All-weaker (λ u. t.position < u.position) (λ u. x < u.position) (λ u k. omega arith) (drop (at + 1) ts) t_rising.0)
+      ahead_all : (x : ℕ) → x ≤ t.position - 1 → AllByRecursion (λ u. x < u.position) R
+      ahead_all x l = subst (AllByRecursion (λ u. x < u.position)) (sym split) (omega arith, All-weaker (λ u. t.position < u.position) (λ u. x < u.position) (λ u k. omega arith) (drop (at + 1) ts) t_rising.0)
 
-      behind_all : (x : ℕ) → from ≤ x → All (λ u. u.position < x) L
+      behind_all : (x : ℕ) → from ≤ x → AllByRecursion (λ u. u.position < x) L
       behind_all x l = All-weaker (λ u. u.position < from) (λ u. u.position < x) (λ u k. omega arith) L w.before
 
       some_right : 0 < length R

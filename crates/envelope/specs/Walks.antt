@@ -1,7 +1,7 @@
 -- What a walk over the gaps keeps.
 use Rattle.std.specs.Prelude.{◌≡◌, ℕ, ◌+◌, ◌*◌, ◌<◌, ◌≤◌, cond, List, [], ◌∷◌, map, length, take, drop, ℤ, pos, ◌+ℤ◌, Some, None, Option, nat_le, slice_index_or, unsigned_abs}
 use Rattle.std.specs.Int.{int_min}
-use Rattle.std.specs.List.{AllByRecursion as All}
+use Rattle.std.specs.List.{AllByRecursion}
 use Rattle.terms.specs.Limits.{last_max, slope_max, highest_height}
 use Rattle.caps.specs.declared.Touch.{Touch}
 use Rattle.caps.specs.declared.Line.{Line}
@@ -45,6 +45,6 @@ pub record Walking (line : Line) (ts : List Touch) (falls : List ℤ) (at from :
   pub table : Falls line ts falls
   pub within : at ≤ length ts
   pub left_is : left ≡ lowest (rise line.slope) (take at ts)
-  pub before : All (λ t. t.position < from) (take at ts)
-  pub after : All (λ t. from ≤ t.position) (drop at ts)
+  pub before : AllByRecursion (λ t. t.position < from) (take at ts)
+  pub after : AllByRecursion (λ t. from ≤ t.position) (drop at ts)
   pub near : from ≤ line.last + 1

@@ -1,10 +1,10 @@
 -- Laws of `num`, over any width.
-use Rattle.std.proofs.Common.{◌≡◌, ℕ, zero, suc, ◌+◌, ◌-◌, ◌*◌, ◌/◌, ◌%◌, ◌^◌, ◌<◌, ◌≤◌, cond, List, [], ◌∷◌, map, length, get_or, sym, refl, ap, ◌∙◌, subst, add-zero, add_assoc, add-suc, mod-lt, mul_assoc, mul_comm, add-mul, pow-suc, div-one, add-one, arith}
+use Rattle.std.proofs.Common.{◌≡◌, ℕ, zero, suc, ◌+◌, ◌-◌, ◌*◌, ◌/◌, ◌%◌, ◌^◌, ◌<◌, ◌≤◌, List, length, get_or, sym, refl, ap, ◌∙◌, add-zero, mul_assoc, pow-suc, div-one, add-one, arith}
 use native.Mathlib.Nat.{div-eq_of_lt}
-use Rattle.std.proofs.lemmas.Nat.{pow_pos, mod_below, shr-shr, div-add-mod', shr_high, mod_low, mod-mul-add}
-use Rattle.std.proofs.lemmas.List.FromFn.{get_or-map-range_with_len, length-map-range_with_len}
+use Rattle.std.proofs.lemmas.Nat.{mod_below, shr-shr, div-add-mod', shr_high, mod_low, mod-mul-add}
+use Rattle.std.proofs.lemmas.List.FromFn.{get_or-map-range_with_len}
 use Rattle.std.proofs.lemmas.List.{ext_get_or}
-use Rattle.fields.specs.Bits.{bit, num, field_of, Field, width_of, bits_of, bytes_of, packed}
+use Rattle.fields.specs.Bits.{bit, num, field_of, bytes_of}
 
 -- one bit more
 pub num_more : (f : ℕ → ℕ) (a w : ℕ) → num f a (w + 1) ≡ num f a w * 2 + f (a + w)

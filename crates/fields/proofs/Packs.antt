@@ -1,12 +1,12 @@
 -- Packed fields read back, and are the only bytes that do.
-use Rattle.std.proofs.Common.{◌≡◌, ℕ, zero, suc, ◌+◌, ◌-◌, ◌*◌, ◌/◌, ◌%◌, ◌^◌, ◌<◌, ◌≤◌, Bool, true, false, cond, ltb, ◌⊎◌, List, [], ◌∷◌, ◌++◌, map, length, get_or, sym, refl, ap, ◌∙◌, subst, inl, inr, ⊎_elim, add-zero, add_assoc, zero-add, arith}
+use Rattle.std.proofs.Common.{◌≡◌, ℕ, ◌+◌, ◌-◌, ◌*◌, ◌/◌, ◌%◌, ◌^◌, ◌<◌, ◌≤◌, List, [], ◌∷◌, ◌++◌, length, get_or, sym, refl, ap, ◌∙◌, ⊎_elim, add_assoc, zero-add, arith}
 use native.Mathlib.Nat.{zero-div}
 use Rattle.std.proofs.lemmas.Nat.{mod_below}
 use Rattle.std.proofs.lemmas.Bool.{lt-ltb, le-ltb, cases_lt}
 use Rattle.std.proofs.lemmas.List.FromFn.{get_or-map-range_with_len, length-map-range_with_len}
 use Rattle.std.proofs.lemmas.List.{get_or_past}
-use Rattle.fields.specs.Bits.{bit, num, field_of, Field, width_of, bits_of, bytes_of, packed, Fit, Reads}
-use Rattle.fields.proofs.Laws.{num_same, num-value, num-bit, num_lt, bit_lt, bit_bytes_of, same_bytes}
+use Rattle.fields.specs.Bits.{bit, num, Field, width_of, bits_of, packed, Fit, Reads}
+use Rattle.fields.proofs.Laws.{num-value, num-bit, num_lt, bit_lt, bit_bytes_of, same_bytes}
 
 pub bits_of_lt : (fs : List Field) (i : ℕ) → bits_of fs i < 2
 bits_of_lt [] i = omega arith

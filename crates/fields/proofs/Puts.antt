@@ -1,10 +1,10 @@
 -- What one bit written leaves of a byte, and of a byte list.
-use Rattle.std.proofs.Common.{◌≡◌, ℕ, zero, suc, ◌+◌, ◌-◌, ◌*◌, ◌/◌, ◌%◌, ◌^◌, ◌<◌, ◌≤◌, ◌≢◌, ◌⊎◌, List, length, get_or, drop, set, sym, refl, ap, ◌∙◌, subst, inl, inr, ⊎_elim, mul_assoc, mul_comm, pow-suc, arith, below_more}
+use Rattle.std.proofs.Common.{◌≡◌, ℕ, ◌+◌, ◌-◌, ◌*◌, ◌/◌, ◌%◌, ◌^◌, ◌<◌, ◌≤◌, List, length, get_or, drop, set, sym, refl, ap, ◌∙◌, subst, ⊎_elim, mul_assoc, arith, below_more}
 use native.Mathlib.Nat.{mul-mod_left}
-use Rattle.std.proofs.lemmas.Nat.{pow_pos, pow-add, mod-mul-add, div-mul-add, shr-shr, shl-shr, shr_below, shl_below, shl_whole}
+use Rattle.std.proofs.lemmas.Nat.{pow-add, mod-mul-add, div-mul-add, shr-shr, shl-shr, shr_below, shl_below}
 use Rattle.std.proofs.lemmas.List.{get_or-set_same, get_or-set_other, drop-set-lt, drop-drop}
-use Rattle.std.proofs.lemmas.Bool.{cases_lt, cases_eq}
-use Rattle.fields.specs.Bits.{bit, num, stamped}
+use Rattle.std.proofs.lemmas.Bool.{cases_eq}
+use Rattle.fields.specs.Bits.{bit, stamped}
 
 module _ (b o v : ℕ) (lo : o < 8) (lv : v < 2) where
   pub stamped_before : (p : ℕ) → p < o → stamped b o v / 2 ^ (7 - p) % 2 ≡ b / 2 ^ (7 - p) % 2

@@ -1,8 +1,7 @@
 -- Facts of a reading that goes up to a last position.
 use Rattle.std.specs.Prelude.{◌≡◌, ℕ, ◌<◌, ◌≤◌, Bool, true, false, cond, ◌⊎◌, ℤ, Ok, Err, nat_lt, refl}
-use Rattle.std.proofs.Common.{sym, ap, ◌∙◌, inl, inr, ⊎_elim, arith, ltb-false, lt-ltb, le-ltb}
+use Rattle.std.proofs.Common.{sym, ap, inl, inr, ⊎_elim, arith, ltb-false, lt-ltb, le-ltb}
 use Rattle.terms.specs.declared.fault.Fault.{Fault}
-use Rattle.terms.specs.declared.fault.Cause.TheVariants.{Beyond, Unread}
 use Rattle.terms.specs.Faults.{beyond}
 use Rattle.terms.specs.Meaning.{Reading}
 use Rattle.gauges.specs.Layering.{up_to}

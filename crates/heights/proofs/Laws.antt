@@ -1,13 +1,13 @@
 -- A list of heights that passes the tests is a lawful gauge.
-use Rattle.std.proofs.Common.{◌≡◌, ℕ, zero, suc, ◌+◌, ◌-◌, ◌*◌, ◌<◌, ◌≤◌, Bool, true, false, cond, not, ◌&&◌, ltb, ◌⊎◌, List, length, ℤ, pos, negsuc, ◌+ℤ◌, ◌-ℤ◌, nat_abs, ◌≤ℤ◌, is_some, is_ok, Some, None, Ok, Err, Option, sym, refl, ap, ◌∙◌, inl, inr, ⊎_elim, arith}
+use Rattle.std.proofs.Common.{◌≡◌, ℕ, zero, suc, ◌+◌, ◌-◌, ◌*◌, ◌<◌, ◌≤◌, Bool, true, false, cond, not, ◌&&◌, ltb, List, length, ℤ, ◌-ℤ◌, nat_abs, is_some, is_ok, Some, None, Ok, Err, Option, sym, refl, ap, ◌∙◌, ⊎_elim, arith}
 use Rattle.std.proofs.lemmas.Int.{ints}
 use Rattle.std.proofs.lemmas.Bool.{cases_Bool, cases_order, lt-ltb, le-ltb, ltb-false, and_from, and_cases, not_from_false, both_ways, cond-true, cond-false}
 use Rattle.terms.specs.declared.fault.Fault.{Fault}
-use Rattle.terms.specs.declared.fault.Cause.TheVariants.{Beyond, Unread}
-use Rattle.heights.specs.Heights.{height_at, marked, lowest, apart, breaks, partner, with_partner, paired, first_break}
+use Rattle.terms.specs.declared.fault.Cause.TheVariants.{Unread}
+use Rattle.heights.specs.Heights.{height_at, marked, lowest, breaks, partner, with_partner, paired, first_break}
 use Rattle.heights.specs.Verdicts.{sheet_verdict, name_verdict, table_verdict}
 use Rattle.terms.specs.Faults.{beyond, unread}
-use Rattle.terms.specs.Meaning.{Meaning, Lawful, Height, Reading, Keeps, distance}
+use Rattle.terms.specs.Meaning.{Lawful, Reading, Keeps, distance}
 use Rattle.heights.specs.Lists.{entry_reading, list_reading, list_meaning}
 use Rattle.heights.proofs.Lowest.{none_lowest}
 use Rattle.heights.proofs.Pairs.{ranged_at}

@@ -1,10 +1,10 @@
 -- Running extremes of height ± slope × position tell whether one more height breaks the law.
-use Rattle.std.proofs.Common.{◌≡◌, ℕ, ◌+◌, ◌-◌, ◌*◌, ◌<◌, ◌≤◌, Bool, true, false, cond, not, ◌&&◌, ◌||◌, ltb, ◌⊎◌, List, length, ℤ, pos, negsuc, ◌+ℤ◌, ◌-ℤ◌, nat_abs, ◌≤ℤ◌, ◌<ℤ◌, is_some, Some, None, sym, refl, ap, ◌∙◌, inl, inr, ⊎_elim, mul-add, arith, rules}
+use Rattle.std.proofs.Common.{◌≡◌, ℕ, ◌+◌, ◌-◌, ◌*◌, ◌<◌, ◌≤◌, true, false, not, ◌⊎◌, List, length, ℤ, pos, negsuc, ◌+ℤ◌, ◌-ℤ◌, nat_abs, ◌≤ℤ◌, ◌<ℤ◌, is_some, Some, None, sym, refl, ap, ◌∙◌, inl, inr, ⊎_elim, mul-add, arith}
 use lib.Signed.{lt_z}
 use Rattle.std.specs.Int.{int_max, int_min}
 use Rattle.std.proofs.lemmas.Int.{ints, clamps}
 use Rattle.std.proofs.lemmas.Bool.{cases_Bool, cases_lt, lt-ltb, le-ltb, or_parts, or_cases, and_from, and_left, and_right, not_from_false, not_from_true, not-false, both_ways}
-use Rattle.heights.specs.Heights.{height_at, marked, allowed, lowest, apart, breaks, partner, first_outside, first_break, with_partner, paired}
+use Rattle.heights.specs.Heights.{height_at, marked, allowed, apart, breaks, partner, first_outside, first_break, with_partner, paired}
 use Rattle.heights.specs.Extremes.{stray}
 use Rattle.terms.specs.Meaning.{Height}
 use Rattle.heights.proofs.Lowest.{lowest_none, lowest_some, none_lowest, lowest_found}

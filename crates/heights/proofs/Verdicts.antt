@@ -1,10 +1,10 @@
 -- What a verdict without refusal tells.
-use Rattle.std.proofs.Common.{◌≡◌, ℕ, ◌-◌, ◌<◌, ◌≤◌, Bool, true, false, cond, List, length, ℤ, is_ok, Some, None, Ok, Err, Option, sym, refl, ap, ◌∙◌, arith, rules}
+use Rattle.std.proofs.Common.{◌≡◌, ℕ, ◌-◌, ◌≤◌, true, false, List, length, ℤ, is_ok, Some, None, Ok, Err, Option, refl, rules}
 use Rattle.std.specs.Result.{result_and}
 use Rattle.std.proofs.lemmas.Bool.{both_ways}
 use Rattle.terms.specs.Limits.{last_max, slope_max, slack_max}
 use Rattle.heights.specs.Heights.{first_outside, first_break}
-use Rattle.heights.specs.Verdicts.{Verdict, line_verdict, range_answer, law_answer, heights_verdict, sheet_verdict, name_verdict, table_verdict}
+use Rattle.heights.specs.Verdicts.{Verdict, line_verdict, range_answer, law_answer, heights_verdict, sheet_verdict}
 
 -- what the tests of a line leave
 pub record Line (last slope slack : ℕ) : Type 0 where

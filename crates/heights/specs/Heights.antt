@@ -1,5 +1,5 @@
 -- Lists of heights: which heights may stand in one, and which pairs break the law.
-use Rattle.std.specs.Prelude.{ℕ, zero, suc, ◌+◌, ◌-◌, ◌*◌, Bool, true, false, cond, not, ◌&&◌, ◌||◌, List, length, ℤ, pos, negsuc, ◌-ℤ◌, is_some, Some, None, Option, ◌==◌, int_le, nat_lt, slice_index_or, unsigned_abs}
+use Rattle.std.specs.Prelude.{ℕ, zero, suc, ◌+◌, ◌-◌, ◌*◌, Bool, false, cond, not, ◌&&◌, ◌||◌, List, length, ℤ, pos, negsuc, ◌-ℤ◌, is_some, Some, None, Option, ◌==◌, int_le, nat_lt, slice_index_or, unsigned_abs}
 use Rattle.terms.specs.Limits.{lowest_height, highest_height}
 
 -- the height at a position

@@ -1,5 +1,5 @@
 -- The law between every two heights, and what the search for a break tells of it.
-use Rattle.std.specs.Prelude.{◌≡◌, ℕ, ◌+◌, ◌-◌, ◌*◌, ◌<◌, ◌≤◌, false, List, length, ℤ, ◌-ℤ◌, Some, None, unsigned_abs}
+use Rattle.std.specs.Prelude.{◌≡◌, ℕ, ◌+◌, ◌-◌, ◌*◌, ◌<◌, false, List, length, ℤ, ◌-ℤ◌, Some, None, unsigned_abs}
 use Rattle.heights.specs.Heights.{height_at, marked, first_break}
 
 -- a position whose height is no mark

@@ -1,5 +1,5 @@
 -- The height less its remainder is the greatest multiple of the step at or below the height.
-use Rattle.std.proofs.Common.{◌≡◌, ℕ, suc, ◌+◌, ◌-◌, ◌*◌, ◌/◌, ◌%◌, ◌<◌, ◌≤◌, Bool, true, false, leb, ℤ, pos, negsuc, ◌+ℤ◌, ◌-ℤ◌, ◌≤ℤ◌, ◌<ℤ◌, Ok, refl, ap, mul-le-mul_right, mod-lt, suc-mul, add-mul, div-add-mod', arith, leb-false, leb-true}
+use Rattle.std.proofs.Common.{◌≡◌, ℕ, suc, ◌+◌, ◌*◌, ◌/◌, ◌%◌, ◌<◌, ◌≤◌, Bool, true, false, leb, ℤ, pos, negsuc, ◌+ℤ◌, ◌-ℤ◌, ◌≤ℤ◌, ◌<ℤ◌, refl, ap, mul-le-mul_right, mod-lt, suc-mul, add-mul, div-add-mod', arith, leb-false, leb-true}
 use Rattle.std.proofs.lemmas.Int.{ints}
 use Rattle.terms.specs.Meaning.{Meaning}
 use Rattle.gauges.specs.Layering.{over}

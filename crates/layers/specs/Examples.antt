@@ -1,5 +1,5 @@
 -- Worked examples of the layers, as one fact of their definitions.
-use Rattle.std.specs.Prelude.{◌≡◌, ℕ, pos, negsuc}
+use Rattle.std.specs.Prelude.{◌≡◌, pos, negsuc}
 use Rattle.layers.specs.Layers.{coarse_height, sum_height, sum_slope}
 
 pub record LayerExamples : Type 0 where

@@ -1,6 +1,6 @@
 -- Facts of touches place by place, and by recursion over their list.
 use Rattle.std.proofs.Common.{◌≡◌, ℕ, zero, suc, ◌+◌, ◌<◌, ◌≤◌, true, false, ◌≢◌, List, [], ◌∷◌, length, get_or, drop, ℤ, nat_abs, ap, ◌∙◌, arith}
-use Rattle.std.specs.List.{AllByRecursion as All}
+use Rattle.std.specs.List.{AllByRecursion}
 use Rattle.std.proofs.lemmas.List.{drop_more, drop_all}
 use Rattle.std.proofs.lemmas.Int.{ints}
 use Rattle.std.proofs.lemmas.Bool.{cond-true, cond-false, eq-eqb, ne_eqb}
@@ -11,11 +11,11 @@ use Rattle.caps.specs.Touches.{Rising, is_touched}
 use Rattle.logs.specs.Places.{no_touch, Rises, Near, Low}
 
 module _ {X : Type 0} (P : X → Type 0) (d : X) where
-  all_from : (xs : List X) → ((i : ℕ) → i < length xs → P (get_or xs i d)) → All P xs
+  all_from : (xs : List X) → ((i : ℕ) → i < length xs → P (get_or xs i d)) → AllByRecursion P xs
   all_from [] h = tt
   all_from (x ∷ xs) h = (h 0 (omega arith), all_from xs (λ i l. h (suc i) (omega arith)))
 
-  all_at : (xs : List X) → All P xs → (i : ℕ) → i < length xs → P (get_or xs i d)
+  all_at : (xs : List X) → AllByRecursion P xs → (i : ℕ) → i < length xs → P (get_or xs i d)
   all_at [] h i l = absurd (omega arith)
   all_at (x ∷ xs) h zero l = h.0
   all_at (x ∷ xs) h (suc i) l = all_at xs h.1 i (omega arith)
@@ -34,10 +34,10 @@ rises_from (t ∷ ts) h zero (suc j) l k = all_at (λ u. t.position < u.position
 rises_from (t ∷ ts) h (suc i) zero l k = absurd (omega arith)
 rises_from (t ∷ ts) h (suc i) (suc j) l k = rises_from ts h.1 i j (omega arith) (omega arith)
 
-pub within_from : (last : ℕ) (ts : List Touch) → Near last ts → All (λ t. t.position ≤ last) ts
+pub within_from : (last : ℕ) (ts : List Touch) → Near last ts → AllByRecursion (λ t. t.position ≤ last) ts
 within_from last ts h = all_from (λ t. t.position ≤ last) no_touch ts h
 
-pub near_from : (last : ℕ) (ts : List Touch) → All (λ t. t.position ≤ last) ts → Near last ts
+pub near_from : (last : ℕ) (ts : List Touch) → AllByRecursion (λ t. t.position ≤ last) ts → Near last ts
 near_from last ts h = all_at (λ t. t.position ≤ last) no_touch ts h
 
 height_from : (h : ℤ) → nat_abs h ≤ nat_abs highest_height → Height h
@@ -46,10 +46,10 @@ height_from h l = record { low = omega (arith, ints); high = omega (arith, ints)
 low_of : (h : ℤ) → Height h → nat_abs h ≤ nat_abs highest_height
 low_of h b = omega (arith, ints, b.low, b.high)
 
-pub heights_from : (ts : List Touch) → Low ts → All (λ t. Height t.height) ts
+pub heights_from : (ts : List Touch) → Low ts → AllByRecursion (λ t. Height t.height) ts
 heights_from ts h = all_from (λ t. Height t.height) no_touch ts (λ i l. height_from (get_or ts i no_touch).height (h i l))
 
-pub low_from : (ts : List Touch) → All (λ t. Height t.height) ts → Low ts
+pub low_from : (ts : List Touch) → AllByRecursion (λ t. Height t.height) ts → Low ts
 low_from ts h i l = low_of (get_or ts i no_touch).height (all_at (λ t. Height t.height) no_touch ts h i l)
 
 -- Whether p is touched from place i on.

@@ -1,8 +1,8 @@
 -- What is computed is the first item of highest rank.
-use Rattle.std.proofs.Common.{◌≡◌, ℕ, Bool, true, false, cond, List, [], ◌∷◌, ◌++◌, ℤ, ◌≤ℤ◌, ◌<ℤ◌, Some, None, Option, sym, refl, ap, ◌∙◌, arith}
+use Rattle.std.proofs.Common.{◌≡◌, ℕ, true, false, List, [], ◌∷◌, ℤ, ◌≤ℤ◌, ◌<ℤ◌, Some, None, Option, refl, ap, arith}
 use lib.Signed.{lt_z}
 use borrow.Author.Differences.{ints}
-use Rattle.std.specs.List.{AllByRecursion as All}
+use Rattle.std.specs.List.{AllByRecursion}
 use Rattle.std.proofs.ByRecursion.{All-weaker, All-append}
 use Rattle.std.proofs.lemmas.Int.{by_lt_z}
 use Rattle.std.proofs.lemmas.Bool.{cond_both}
@@ -45,7 +45,7 @@ module _ {X : Type 0} (f : X → ℤ) where
       (λ k. simp (le_false _ _ h, lt_true _ _ k))
       (λ k. simp (le_false _ _ h, le_false _ _ k, le_false _ _ h, le_false (f p) (f y) (omega (arith, ints)))))
 
-  after_here : (x : X) (xs : List X) (y : X) → Leads f xs y → f y ≤ℤ f x → All (λ z. f z ≤ℤ f x) xs
+  after_here : (x : X) (xs : List X) (y : X) → Leads f xs y → f y ≤ℤ f x → AllByRecursion (λ z. f z ≤ℤ f x) xs
   after_here x xs y l h =
       simp l.there
       (All-append (λ z. f z ≤ℤ f x) l.before (y ∷ l.after)

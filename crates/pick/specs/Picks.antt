@@ -1,6 +1,6 @@
 -- The first item of highest rank, and the first item above a bound.
 use Rattle.std.specs.Prelude.{◌≡◌, cond, List, [], ◌∷◌, ◌++◌, ℤ, ◌≤ℤ◌, ◌<ℤ◌, Some, None, Option, int_lt}
-use Rattle.std.specs.List.{AllByRecursion as All}
+use Rattle.std.specs.List.{AllByRecursion}
 
 -- the first item of a list, and what comes after it
 abbrev pub head : {X : Type 0} → List X → Option X
@@ -30,8 +30,8 @@ pub record Leads {X : Type 0} (f : X → ℤ) (xs : List X) (x : X) : Type 0 whe
   pub before : List X
   pub after : List X
   pub there : xs ≡ before ++ (x ∷ after)
-  pub lower : All (λ y. f y <ℤ f x) before
-  pub most : All (λ y. f y ≤ℤ f x) after
+  pub lower : AllByRecursion (λ y. f y <ℤ f x) before
+  pub most : AllByRecursion (λ y. f y ≤ℤ f x) after
 
 -- what the pick of a list is, in words
 abbrev pub Picks : {X : Type 0} → (X → ℤ) → List X → Option X → Type 0
@@ -53,10 +53,10 @@ pub record Exceeds {X : Type 0} (f : X → ℤ) (z : ℤ) (xs : List X) (x : X) 
   pub before : List X
   pub after : List X
   pub there : xs ≡ before ++ (x ∷ after)
-  pub under : All (λ y. f y ≤ℤ z) before
+  pub under : AllByRecursion (λ y. f y ≤ℤ z) before
   pub above : z <ℤ f x
 
 -- what the first item above z is, in words
 abbrev pub Finds : {X : Type 0} → (X → ℤ) → ℤ → List X → Option X → Type 0
-Finds f z xs None = All (λ y. f y ≤ℤ z) xs
+Finds f z xs None = AllByRecursion (λ y. f y ≤ℤ z) xs
 Finds f z xs (Some x) = Exceeds f z xs x

@@ -1,18 +1,17 @@
 -- Each lawful sheet has one record.
-use Rattle.std.proofs.Common.{◌≡◌, ℕ, zero, suc, ◌+◌, ◌-◌, ◌*◌, ◌/◌, ◌%◌, ◌^◌, ◌<◌, ◌≤◌, Bool, true, false, cond, not, eqb, ltb, List, [], ◌∷◌, map, length, get_or, ℤ, pos, negsuc, is_ok, Ok, Err, sym, refl, ap, ◌∙◌, subst, ⊎_elim, arith}
+use Rattle.std.proofs.Common.{◌≡◌, ℕ, zero, suc, ◌+◌, ◌-◌, ◌*◌, ◌/◌, ◌%◌, ◌^◌, ◌<◌, ◌≤◌, true, false, not, List, [], ◌∷◌, map, length, get_or, ℤ, pos, negsuc, is_ok, Ok, sym, refl, ap, ◌∙◌, subst, ⊎_elim, arith}
 use native.Mathlib.Nat.{zero-div}
 use Rattle.std.specs.List.{range_with_len}
-use Rattle.std.specs.Result.{result_and}
 use Rattle.std.proofs.lemmas.List.FromFn.{length-map-range_with_len, fill_by_all}
 use Rattle.std.proofs.lemmas.Int.{ints}
 use Rattle.std.proofs.lemmas.Bool.{both_ways, cases_Bool, cases_lt, le-ltb, eq-eqb, eqb-true, ne_eqb, not-false}
-use Rattle.heights.specs.Heights.{height_at, marked, allowed, first_outside}
-use Rattle.heights.specs.Verdicts.{Verdict, line_verdict, heights_verdict, sheet_verdict, name_verdict}
+use Rattle.heights.specs.Heights.{height_at, marked, allowed}
+use Rattle.heights.specs.Verdicts.{line_verdict, heights_verdict, name_verdict}
 use Rattle.heights.proofs.Lowest.{none_lowest}
 use Rattle.heights.proofs.Pairs.{ranged}
 use Rattle.terms.specs.Meaning.{Height}
-use Rattle.heights.proofs.Verdicts.{Line, Passed, sheet_ok, both_ok, ok_both, ok_is}
-use Rattle.fields.specs.Bits.{Field, bit, num, field_of, packed, width_of, bits_of, Fit, Reads, signed_of, complement_of, FitsSigned}
+use Rattle.heights.proofs.Verdicts.{Passed, sheet_ok, both_ok, ok_both, ok_is}
+use Rattle.fields.specs.Bits.{bit, num, field_of, width_of, bits_of, Fit, Reads, signed_of, complement_of, FitsSigned}
 use Rattle.fields.proofs.Laws.{bit_lt, num_lt, num-bit}
 use Rattle.fields.proofs.Packs.{packed_reads, packed_only, packed_bytes, length-packed, bit-packed, bit_past, bits_of_past}
 use Rattle.fields.proofs.Writes.{reads_own}

@@ -1,5 +1,5 @@
 -- A small record, and what the tests say of it and of its neighbours.
-use Rattle.std.specs.Prelude.{◌≡◌, ℕ, List, [], ◌∷◌, ℤ, pos, negsuc, Some, Ok, Err}
+use Rattle.std.specs.Prelude.{◌≡◌, ℕ, List, [], ◌∷◌, pos, negsuc, Some, Ok, Err}
 use Rattle.terms.specs.declared.refusal.Refusal.TheVariants.{PadBitSet, LawBroken}
 use Rattle.heights.specs.Heights.{first_break}
 use Rattle.records.specs.Sheet.{Sheet, sheet_with, sheet_of, record_of}

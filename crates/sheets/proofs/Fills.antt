@@ -1,5 +1,5 @@
 -- A lawful sheet is written into a buffer of the right length.
-use Rattle.std.proofs.Common.{◌≡◌, ℕ, ◌+◌, ◌*◌, false, ltb, List, [], length, drop, Ok, sym, refl, ap, ◌∙◌, append-nil, arith}
+use Rattle.std.proofs.Common.{◌≡◌, ℕ, ◌+◌, ◌*◌, false, ltb, List, [], length, drop, Ok, append-nil, arith}
 use Rattle.std.proofs.lemmas.List.{drop_all}
 use Rattle.std.proofs.lemmas.Bool.{le-ltb}
 use Rattle.records.specs.Sheet.{Sheet, record_of}

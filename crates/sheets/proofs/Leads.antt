@@ -1,5 +1,5 @@
 -- One more position keeps what a summary says.
-use Rattle.std.proofs.Common.{◌≡◌, ℕ, zero, suc, ◌+◌, ◌<◌, ◌≤◌, Bool, true, false, cond, ℤ, neg_ℤ, ◌≤ℤ◌, ◌<ℤ◌, Some, None, Ok, Err, Option, sym, refl, ap, ◌∙◌, ⊎_elim, add-one, arith, below_more}
+use Rattle.std.proofs.Common.{◌≡◌, ℕ, zero, suc, ◌+◌, ◌≤◌, true, false, ℤ, neg_ℤ, ◌≤ℤ◌, ◌<ℤ◌, Some, None, Ok, Err, Option, sym, ap, ◌∙◌, ⊎_elim, add-one, arith, below_more}
 use lib.Signed.{lt_z}
 use Rattle.std.proofs.lemmas.Int.{ints}
 use Rattle.std.proofs.lemmas.Bool.{cases_Bool}
@@ -7,7 +7,7 @@ use Rattle.terms.specs.declared.fault.Fault.{Fault}
 use Rattle.terms.specs.Meaning.{Meaning, Reading}
 use Rattle.sheets.specs.declared.summary.Spot.{Spot}
 use Rattle.sheets.specs.declared.summary.Summary.{Summary}
-use Rattle.sheets.specs.Summaries.{readable_before, one_if_readable, itself, FirstHighest, HighestBefore, Summarizes, led, with_reading}
+use Rattle.sheets.specs.Summaries.{readable_before, one_if_readable, itself, HighestBefore, Summarizes, led, with_reading}
 
 not_under : (a b : ℤ) → lt_z a b ≡ false → b ≤ℤ a
 not_under a b e = grind (arith, ints)

@@ -1,16 +1,15 @@
 -- Packing what an accepted record says gives its bytes again.
-use Rattle.std.proofs.Common.{◌≡◌, ℕ, ◌+◌, ◌-◌, ◌*◌, ◌<◌, ◌≤◌, Bool, true, false, cond, ltb, List, length, ℤ, pos, negsuc, is_ok, Ok, Err, sym, refl, ap, ◌∙◌, subst, ⊎_elim, arith}
+use Rattle.std.proofs.Common.{◌≡◌, ℕ, ◌+◌, ◌-◌, ◌*◌, true, false, ltb, List, length, ℤ, pos, negsuc, is_ok, Ok, sym, refl, ap, ◌∙◌, ⊎_elim, arith}
 use Rattle.std.proofs.lemmas.List.FromFn.{length-map-range_with_len, fill_by_all}
 use Rattle.std.proofs.lemmas.Bool.{both_ways, cases_Bool, le-ltb, eqb-true, cond-false}
 use Rattle.heights.specs.Heights.{height_at, marked}
 use Rattle.heights.specs.Lists.{entry_reading, list_reading, list_meaning}
 use Rattle.heights.proofs.Verdicts.{ok_is}
-use Rattle.records.specs.Sheet.{last_of, slope_of, slack_of, height_of, heights_of, sheet_with, sheet_of, record_of}
+use Rattle.records.specs.Sheet.{last_of, slope_of, slack_of, height_of, heights_of, sheet_with, sheet_of}
 use Rattle.records.specs.Verdict.{record_verdict, verdict_of, write_verdict, write_leaves}
 use Rattle.records.specs.Laws.{record_meaning, Accepted, accepted}
 use Rattle.records.specs.Theorem.{Bytes}
 use Rattle.records.proofs.Sheets.{one_record_each}
-use Rattle.terms.specs.Meaning.{Meaning}
 use Rattle.sheets.specs.Entries.{entry, entries}
 use Rattle.sheets.proofs.Fills.{fits, filled}
 

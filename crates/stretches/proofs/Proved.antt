@@ -1,7 +1,7 @@
 -- The laws of the spans hold.
 use Rattle.std.proofs.Common.{◌≡◌, ℕ, ◌≤◌, List, ◌∷◌, get_or, ℤ, pos, ◌≤ℤ◌, refl, arith}
 use borrow.Author.Differences.{ints}
-use Rattle.std.specs.List.{AllByRecursion as All}
+use Rattle.std.specs.List.{AllByRecursion}
 use Rattle.std.proofs.ByRecursion.{All-map, All-weaker}
 use Rattle.terms.specs.Meaning.{distance}
 use Rattle.caps.specs.declared.Touch.{Touch}
@@ -22,7 +22,7 @@ module _ (line : Line) (a : Touch) (ts : List Touch) where
   f = cap line (a ∷ ts)
 
   -- What holds of the span of every gap holds of every span.
-  each : (P : Span → Type 0) → ((g : Stretch) → IsGap line (a ∷ ts) g → P (span_of f g)) → OnLine line (a ∷ ts) → All P (spans line (a ∷ ts))
+  each : (P : Span → Type 0) → ((g : Stretch) → IsGap line (a ∷ ts) g → P (span_of f g)) → OnLine line (a ∷ ts) → AllByRecursion P (spans line (a ∷ ts))
   each P h on = All-map P (span_of f) (gaps line (a ∷ ts)) (All-weaker (IsGap line (a ∷ ts)) (λ g. P (span_of f g)) h (gaps line (a ∷ ts)) (each_is_a_gap line (a ∷ ts) on))
 
   below : LawfulTouches line (a ∷ ts) → (sheet : List ℤ) → Possible line (a ∷ ts) sheet → (g : Stretch) → IsGap line (a ∷ ts) g → (x : ℕ) → g.from ≤ x → x ≤ g.to → get_or sheet x (pos 0) ≤ℤ f (top_place f g)

@@ -1,7 +1,6 @@
 -- The worked example, computed.
 use Rattle.std.proofs.Common.{refl}
 use Rattle.terms.specs.Meaning.{distance}
-use Rattle.surveys.specs.Laws.{Law}
 use Rattle.surveys.specs.Example.{WorkedExample}
 
 pub worked : WorkedExample

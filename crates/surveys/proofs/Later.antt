@@ -1,7 +1,7 @@
 -- Later moments, the ceiling, the floor, and what settled means.
-use Rattle.std.proofs.Common.{◌≡◌, ℕ, suc, ◌*◌, ◌≤◌, false, ltb, ◌≢◌, List, [], ◌∷◌, length, ℤ, pos, ◌+ℤ◌, ◌≤ℤ◌, Some, Ok, sym, refl, ap, subst, ⊎_elim, arith}
+use Rattle.std.proofs.Common.{◌≡◌, ℕ, suc, ◌*◌, ◌≤◌, false, ltb, ◌≢◌, List, [], ◌∷◌, length, ℤ, ◌≤ℤ◌, Some, Ok, sym, refl, ap, subst, ⊎_elim, arith}
 use borrow.Author.Differences.{ints}
-use Rattle.std.specs.List.{ContainsAt as Has, AllByRecursion as All}
+use Rattle.std.specs.List.{ContainsAt as Has, AllByRecursion}
 use Rattle.std.proofs.ByRecursion.{All-weaker, all-has, all_has_itself}
 use Rattle.std.proofs.lemmas.Bool.{cond_both, eqb-false, cases_order}
 use Rattle.terms.specs.Meaning.{Meaning, Lawful}
@@ -20,7 +20,6 @@ use Rattle.caps.proofs.Inserts.{more_touches, every_touch_stays}
 use Rattle.caps.proofs.Proved.{laws_of_caps}
 use Rattle.surveys.specs.declared.calls.Call.{Call}
 use Rattle.surveys.specs.States.{State, line_of, opened, add, with_tolerance, full}
-use Rattle.surveys.specs.Calls.{report}
 use Rattle.surveys.specs.Moments.{moment}
 use Rattle.surveys.specs.Laws.{NoWorseLater, FloorStands, TellsSettled}
 use Rattle.surveys.proofs.Sound.{Sound, SurveyOf, sound_none, sound_more, sound_lawful}
@@ -45,7 +44,7 @@ module _ (m : Meaning) (law : Lawful m) where
     of : SurveyOf m s
     same : s.limit ≡ limit
     few : length s.touches ≤ limit
-    remain : All (Has s.touches) earlier
+    remain : AllByRecursion (Has s.touches) earlier
 
   module _ (n : ℕ) (earlier : List Touch) where
     abbrev P : State → Type 0
@@ -86,7 +85,7 @@ module _ (m : Meaning) (law : Lawful m) where
     pub few_at : (k : ℕ) → length (survey k).touches ≤ limit
     few_at k = (kept_at k).few
 
-    remain_at : (j k : ℕ) → j ≤ k → All (Has (survey k).touches) (survey j).touches
+    remain_at : (j k : ℕ) → j ≤ k → AllByRecursion (Has (survey k).touches) (survey j).touches
     remain_at j k le =
         let ts : List Touch = (survey j).touches in
         let now = kept_at j in
@@ -97,7 +96,7 @@ module _ (m : Meaning) (law : Lawful m) where
     pub later_never_worse : (j k : ℕ) → j ≤ k → (o : Outlook) → outlook L (survey j).touches ≡ Some o → NoWorseLater L (survey j).touches (survey k).touches o
     later_never_worse j k le o e = no_worse (survey j).touches (survey k).touches (survey_of_at j).sound (survey_of_at k).sound (remain_at j k le) o e
       where
-        no_worse : (ts us : List Touch) → Sound m ts → Sound m us → All (Has us) ts → (o : Outlook) → outlook (line_of m) ts ≡ Some o → NoWorseLater (line_of m) ts us o
+        no_worse : (ts us : List Touch) → Sound m ts → Sound m us → AllByRecursion (Has us) ts → (o : Outlook) → outlook (line_of m) ts ≡ Some o → NoWorseLater (line_of m) ts us o
         no_worse [] us st su h o e = let z : ◌≡◌ {A = ℕ} 0 1 = cc in absurd (omega arith)
         no_worse (a ∷ ts) [] st su h o e = absurd (omega (arith, h.0.1))
         no_worse (a ∷ ts) (c ∷ us) st su h o e =

@@ -1,6 +1,6 @@
 -- A search at one tolerance: few touches, and a run that has room for them ends. And what a run counts.
-use Rattle.std.proofs.Common.{◌≡◌, ℕ, zero, suc, ◌+◌, ◌<◌, ◌≤◌, true, false, eqb, ltb, ◌≢◌, ◌⊎◌, List, [], ◌∷◌, map, length, ℤ, Some, Ok, Err, Option, Result, sym, refl, ap, ◌∙◌, subst, inl, inr, ⊎_elim, arith}
-use Rattle.std.specs.List.{AllByRecursion as All}
+use Rattle.std.proofs.Common.{◌≡◌, ℕ, zero, suc, ◌+◌, ◌<◌, ◌≤◌, false, ltb, ◌≢◌, ◌⊎◌, List, [], ◌∷◌, map, length, ℤ, Some, Ok, Err, Option, Result, sym, refl, ap, ◌∙◌, subst, inl, inr, ⊎_elim, arith}
+use Rattle.std.specs.List.{AllByRecursion}
 use Rattle.std.proofs.ByRecursion.{All-weaker, All-map}
 use Rattle.std.proofs.lemmas.List.{length-map}
 use Rattle.std.proofs.lemmas.Bool.{cond_both, cond-false, eqb-true}
@@ -9,14 +9,13 @@ use Rattle.terms.specs.Meaning.{Meaning, Lawful, Reading, distance}
 use Rattle.terms.specs.declared.refusal.Refusal.{Refusal}
 use Rattle.caps.specs.declared.Touch.{Touch}
 use Rattle.caps.specs.declared.Line.{Line}
-use Rattle.caps.specs.Touches.{is_touched, insert}
+use Rattle.caps.specs.Touches.{is_touched}
 use Rattle.caps.specs.Caps.{Apart, spacing, most_touches}
 use Rattle.caps.proofs.Room.{distance_same}
 use Rattle.caps.proofs.Inserts.{stays_apart}
 use Rattle.caps.proofs.Proved.{laws_of_caps}
 use Rattle.surveys.specs.declared.calls.Call.{Call}
 use Rattle.surveys.specs.declared.calls.Call.TheVariants.{High, Left, At, Run, Tol, Ask}
-use Rattle.surveys.specs.declared.answers.Stop.TheVariants as stop
 use Rattle.surveys.specs.declared.answers.Course.{Course}
 use Rattle.surveys.specs.declared.answers.Answer.{Answer}
 use Rattle.surveys.specs.declared.answers.Answer.TheVariants.{Touched, Set}
@@ -75,7 +74,7 @@ module _ (m : Meaning) (law : Lawful m) where
   of_searched : (s : State) → Searched s → SurveyOf m s
   of_searched s h = h.of
 
-  far : (tolerance : ℕ) (ts : List Touch) (p : ℕ) → Sound m ts → Aim (line_of m) tolerance ts p → All (λ t. d tolerance ≤ distance t.position p) ts
+  far : (tolerance : ℕ) (ts : List Touch) (p : ℕ) → Sound m ts → Aim (line_of m) tolerance ts p → AllByRecursion (λ t. d tolerance ≤ distance t.position p) ts
   far tolerance [] p sound aim = tt
   far tolerance (a ∷ ts) p sound aim = laws_of_caps.high_cap_is_far L a ts tolerance law.slope_low (sound_lawful m law (a ∷ ts) sound) p aim.above
 
@@ -85,7 +84,7 @@ module _ (m : Meaning) (law : Lawful m) where
     apart = stays_apart (d s.tolerance) (record { position = p; height = h }) s.touches g.apart (far s.tolerance s.touches p g.of.sound aim);
   }
 
-  within : (s : State) → SurveyOf m s → All (λ p. p ≤ m.last) (places s.touches)
+  within : (s : State) → SurveyOf m s → AllByRecursion (λ p. p ≤ m.last) (places s.touches)
   within s of = All-map (λ p. p ≤ m.last) (λ t. t.position) s.touches of.sound.on_line.within
 
   few : (s : State) → Searched s → length s.touches ≤ most_touches L s.tolerance

@@ -1,6 +1,6 @@
 -- Touches that a lawful gauge has read.
 use Rattle.std.proofs.Common.{◌≡◌, ℕ, ◌≤◌, List, [], ℤ, Ok}
-use Rattle.std.specs.List.{AllByRecursion as All}
+use Rattle.std.specs.List.{AllByRecursion}
 use Rattle.std.proofs.ByRecursion.{All-weaker}
 use Rattle.terms.specs.Meaning.{Meaning, Lawful}
 use Rattle.caps.specs.declared.Touch.{Touch}
@@ -11,7 +11,7 @@ use Rattle.surveys.specs.States.{State, line_of}
 -- the touches lie on the gauge's line, and their heights are the gauge's
 pub record Sound (m : Meaning) (ts : List Touch) : Type 0 where
   pub on_line : OnLine (line_of m) ts
-  pub read : All (λ t. m.reading t.position ≡ Ok t.height) ts
+  pub read : AllByRecursion (λ t. m.reading t.position ≡ Ok t.height) ts
 
 -- a survey of that gauge
 pub record SurveyOf (m : Meaning) (s : State) : Type 0 where
@@ -33,6 +33,6 @@ sound_lawful m law ts sound =
     let K : Touch → Touch → Type 0 = Agree (line_of m) in
     record {
       on_line = sound.on_line;
-      lawful = All-weaker R (λ t. All (K t) ts)
+      lawful = All-weaker R (λ t. AllByRecursion (K t) ts)
           (λ t e. All-weaker R (K t) (λ u f. law.near t.position u.position t.height u.height e f) ts sound.read) ts sound.read;
     }

@@ -4,7 +4,6 @@ use Rattle.std.proofs.lemmas.Bool.{cond_both, ltb-false}
 use Rattle.terms.specs.Limits.{tolerance_max}
 use Rattle.terms.specs.Meaning.{Meaning, Reading}
 use Rattle.terms.specs.declared.refusal.Refusal.{Refusal}
-use Rattle.caps.specs.declared.Touch.{Touch}
 use Rattle.caps.specs.declared.Line.{Line}
 use Rattle.caps.specs.Touches.{Untouched, is_touched}
 use Rattle.caps.proofs.Highest.{false_untouched}

@@ -1,16 +1,14 @@
 -- The law holds of every list of calls, over every lawful gauge, from every opening.
-use Rattle.std.proofs.Common.{◌≡◌, ℕ, suc, ◌≤◌, List, length, Some, sym, refl, ap, ◌∙◌, subst, arith}
+use Rattle.std.proofs.Common.{◌≡◌, ℕ, List, length, sym, refl, ap, subst, arith}
 use Rattle.terms.specs.Meaning.{Meaning, Lawful}
-use Rattle.caps.specs.Caps.{most_touches}
 use Rattle.surveys.specs.declared.calls.Call.{Call}
 use Rattle.surveys.specs.declared.calls.Call.TheVariants.{Run}
 use Rattle.surveys.specs.declared.answers.Course.{Course}
 use Rattle.surveys.specs.declared.answers.Answer.{Answer}
-use Rattle.surveys.specs.declared.answers.Answer.TheVariants.{Ran}
-use Rattle.surveys.specs.States.{State, line_of, opened}
+use Rattle.surveys.specs.States.{State, opened}
 use Rattle.surveys.specs.Calls.{run}
 use Rattle.surveys.specs.Moments.{moment, answers_to}
-use Rattle.surveys.specs.Laws.{Work, Made, Answered, OneSearch, RunsEnd, RunCountsTouches, Law}
+use Rattle.surveys.specs.Laws.{Work, OneSearch, RunsEnd, RunCountsTouches, Law}
 use Rattle.surveys.proofs.Moments.{moment_next, answer_is, answers_long}
 use Rattle.surveys.proofs.Later.{limit_at, few_at, later_never_worse, heights_under_ceiling, floor_was_touched, settled_exactly}
 use Rattle.surveys.proofs.Search.{Searching, few_touches, run_stops, run_counts}

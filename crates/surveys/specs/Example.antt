@@ -1,9 +1,8 @@
 -- The worked example: last 10, slope 5, slack 0, heights 0 4 8 10 9 5 6 9 7 3 0.
-use Rattle.std.specs.Prelude.{◌≡◌, ℕ, Bool, true, false, cond, List, [], ◌∷◌, map, ℤ, pos, Some, None, Ok, Err, Option, nat_lt, slice_index_or}
+use Rattle.std.specs.Prelude.{◌≡◌, ℕ, true, false, cond, List, [], ◌∷◌, map, ℤ, pos, Some, None, Ok, Err, Option, nat_lt, slice_index_or}
 use Rattle.terms.specs.Faults.{beyond}
 use Rattle.terms.specs.Meaning.{Meaning}
 use Rattle.terms.specs.declared.refusal.Refusal.TheVariants.{PositionBeyondLast, AlreadyTouched, AlreadySettled, LimitReached, ToleranceOutOfRange, NothingTouched}
-use Rattle.caps.specs.declared.Touch.{Touch}
 use Rattle.caps.specs.declared.Outlook.{Outlook}
 use Rattle.caps.specs.Figures.{line_a, sheet_a}
 use Rattle.surveys.specs.declared.calls.Call.{Call}

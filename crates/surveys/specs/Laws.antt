@@ -1,8 +1,7 @@
 -- What holds over every list of calls to a survey.
 use Rattle.std.specs.Prelude.{◌≡◌, ℕ, zero, suc, ◌+◌, ◌≤◌, true, ◌≢◌, ◌⊎◌, ◌↔◌, List, [], ◌∷◌, length, ℤ, pos, ◌+ℤ◌, ◌≤ℤ◌, Some, None, Ok, Err, Option}
-use Rattle.std.specs.List.{ContainsAt as Has, AllByRecursion as All}
-use Rattle.terms.specs.Limits.{tolerance_max, touches_max}
-use Rattle.terms.specs.Meaning.{Meaning, Lawful}
+use Rattle.std.specs.List.{ContainsAt as Has, AllByRecursion}
+use Rattle.terms.specs.Meaning.{Meaning}
 use Rattle.terms.specs.declared.refusal.Refusal.{Refusal}
 use Rattle.caps.specs.declared.Touch.{Touch}
 use Rattle.caps.specs.declared.Line.{Line}
@@ -79,7 +78,7 @@ pub record EachAsDefined (w : Work) (left : State) : Type 0 where
 -- No higher ceiling, no lower floor, and every touch is still there with its height.
 pub record NoWorseLater (line : Line) (earlier later : List Touch) (o : Outlook) : Type 0 where
   pub bounds : NoWorse line earlier later o
-  pub heights_remain : All (Has later) earlier
+  pub heights_remain : AllByRecursion (Has later) earlier
 
 -- Of any two moments after the first touch the later has no higher ceiling and no lower floor, and touched heights remain.
 abbrev pub LaterNeverWorse : Work → Type 0

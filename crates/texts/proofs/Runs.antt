@@ -1,9 +1,9 @@
 -- Runs of white space and of other bytes.
-use Rattle.std.proofs.Common.{◌≡◌, ℕ, suc, ◌+◌, ◌-◌, ◌<◌, ◌≤◌, Bool, true, false, cond, not, List, [], ◌∷◌, length, get_or, take, drop, sym, refl, ap, ◌∙◌, ⊎_elim, arith, length-drop}
+use Rattle.std.proofs.Common.{◌≡◌, ℕ, suc, ◌+◌, ◌-◌, ◌<◌, ◌≤◌, Bool, true, false, not, List, [], ◌∷◌, length, get_or, take, drop, sym, refl, ap, ◌∙◌, ⊎_elim, arith, length-drop}
 use Rattle.std.proofs.lemmas.List.{at_drop_more, at_drop_all}
 use Rattle.std.proofs.lemmas.Slice.{between_to_end}
 use Rattle.std.proofs.lemmas.Bool.{cases_Bool, cond-true, cond-false}
-use Rattle.texts.specs.Words.{is_blank, begins_blank, before_first, words, is_kind, run_of}
+use Rattle.texts.specs.Words.{is_blank, before_first, words, is_kind, run_of}
 
 module _ (t : Bool) (xs : List ℕ) (i : ℕ) where
   pub run_ends : i < length xs → is_kind t (get_or xs i 0) ≡ false → run_of t (drop i xs) ≡ 0

@@ -1,10 +1,9 @@
 -- The sheet that a text says.
-use Rattle.std.specs.Prelude.{◌≡◌, ℕ, ◌+◌, cond, List, [], ◌∷◌, length, ℤ, pos, negsuc, neg_ℤ, Some, None, Ok, Err, vec_items, Option, Result, ◌==◌}
+use Rattle.std.specs.Prelude.{◌≡◌, ℕ, ◌+◌, cond, List, [], ◌∷◌, ℤ, pos, negsuc, neg_ℤ, Some, None, Ok, Err, vec_items, Option, Result, ◌==◌}
 use Rattle.texts.specs.declared.sheet.Sheet.{Sheet}
 use Rattle.texts.specs.declared.sheet.TextError.{TextError}
 use Rattle.texts.specs.declared.sheet.TextError.TheVariants.{NoSlope, NoSlack, NoHeight, NoMemory}
 use Rattle.texts.specs.Numbers.{number_of}
-use Rattle.texts.specs.Words.{words}
 
 -- the byte before a number below 0, and the whole word of a position without a reading
 abbrev pub dash : ℕ

@@ -1,5 +1,5 @@
 -- The words of a text: the longest runs of bytes that are no white space.
-use Rattle.std.specs.Prelude.{◌≡◌, ℕ, suc, ◌<◌, Bool, true, false, cond, not, ◌||◌, List, [], ◌∷◌, length, Some, None, Option, ◌==◌}
+use Rattle.std.specs.Prelude.{ℕ, suc, Bool, true, false, cond, not, ◌||◌, List, [], ◌∷◌, ◌==◌}
 
 -- white space: space, tab, line feed, carriage return
 abbrev pub is_blank : ℕ → Bool

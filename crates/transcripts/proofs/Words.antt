@@ -2,7 +2,7 @@
 use Rattle.std.proofs.Common.{◌≡◌, ℕ, zero, suc, ◌+◌, ◌/◌, ◌%◌, ◌<◌, Bool, true, false, cond, eqb, ltb, List, [], ◌∷◌, length, get_or, ℤ, pos, negsuc, Some, None, codes, decimal, Option, refl, mod-lt, arith, lit<}
 use Rattle.std.specs.Str.Iter.{LacksByte}
 use Rattle.std.specs.Fmt.{digits, digits_onto, digit_glyph, signed_decimal}
-use Rattle.std.specs.List.{AllByRecursion as All}
+use Rattle.std.specs.List.{AllByRecursion}
 use Rattle.std.proofs.lemmas.Bool.{cond_both, ltb-true, ltb-false}
 use Rattle.commands.specs.Lines.{line_end, space}
 use Rattle.commands.specs.Orders.{Order, high, left, ask, at, run, tol, unknown, verb_of}
@@ -12,7 +12,7 @@ use Rattle.transcripts.specs.Talks.{IsWord, AreSix, SixWords}
 
 -- bytes above the space
 abbrev Visible : List ℕ → Type 0
-Visible w = All (λ b. 32 < b) w
+Visible w = AllByRecursion (λ b. 32 < b) w
 
 lacks : (c : ℕ) → c < 33 → (w : List ℕ) → Visible w → LacksByte c w
 lacks c h [] v k l e = absurd (omega arith)

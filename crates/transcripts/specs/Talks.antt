@@ -1,7 +1,7 @@
 -- What holds of everything that the program prints.
 use Rattle.std.specs.Prelude.{◌≡◌, ℕ, ◌+◌, ◌*◌, ◌<◌, true, false, List, [], ◌∷◌, length, take, is_ok, codes, Option}
 use Rattle.std.specs.Str.Iter.{LacksByte}
-use Rattle.std.specs.List.{AllByRecursion as All}
+use Rattle.std.specs.List.{AllByRecursion}
 use Rattle.terms.specs.Limits.{last_max, touches_max}
 use Rattle.records.specs.Verdict.{record_verdict}
 use Rattle.surveys.specs.declared.calls.Call.{Call}
@@ -65,7 +65,7 @@ pub record IsWord (w : List ℕ) : Type 0 where
 
 pub record AreSix (ws : List (List ℕ)) : Type 0 where
   pub six : length ws ≡ 6
-  pub each : All IsWord ws
+  pub each : AllByRecursion IsWord ws
 
 abbrev pub SixWords : Type 0
 SixWords = (o : Order) (number touches : ℕ) (bounds : Option Bounds) → AreSix (words (verb_of o) number touches bounds)

@@ -1,4 +1,4 @@
-use Rattle.std.proofs.Common.{◌≡◌, ℕ, ◌*◌, ◌%◌, ◌^◌, ◌≤◌, arith, pow_mono, w32}
+use Rattle.std.proofs.Common.{◌^◌, ◌≤◌, arith, pow_mono, w32}
 use Rattle.std.proofs.lemmas.Nat.{one_shl}
 use Rattle.std.proofs.lemmas.Int.{to_z_pos}
 use Rattle.fields.proofs.power.Goals as goal

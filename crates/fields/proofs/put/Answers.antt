@@ -1,4 +1,4 @@
-use Rattle.std.proofs.Common.{◌≡◌, ℕ, ◌+◌, ◌-◌, ◌*◌, ◌/◌, ◌%◌, ◌^◌, ◌<◌, ap, ◌∙◌, subst, arith}
+use Rattle.std.proofs.Common.{◌≡◌, subst, arith}
 use Rattle.fields.specs.Bits.{bit, field_of}
 use Rattle.fields.proofs.Laws.{num-value}
 use Rattle.fields.proofs.Puts.{Put, put_none, put_more}

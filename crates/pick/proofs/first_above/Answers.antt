@@ -1,4 +1,4 @@
-use Rattle.std.proofs.Common.{◌≡◌, Some, None, Option, sym, subst, rules}
+use Rattle.std.proofs.Common.{◌≡◌, Some, None, sym, subst, rules}
 use Rattle.pick.specs.Picks.{first_above, Finds}
 use Rattle.pick.proofs.Computed.{above_finds}
 use Rattle.pick.proofs.first_above.Goals as goal

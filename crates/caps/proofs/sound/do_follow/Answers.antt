@@ -1,4 +1,4 @@
-use Rattle.std.proofs.Common.{◌≡◌, ◌+◌, List, ◌∷◌, get_or, drop, sym, refl, subst, arith}
+use Rattle.std.proofs.Common.{◌+◌, List, get_or, drop, sym, refl, subst}
 use Rattle.std.proofs.lemmas.List.{drop_more, drop_all}
 use Rattle.std.proofs.lemmas.Bool.{both_ways}
 use Rattle.caps.specs.Places.{AllFollow}

@@ -1,4 +1,4 @@
-use Rattle.std.proofs.Common.{◌≡◌, ◌+◌, ◌-◌, ◌≤◌, ◌++◌, get_or, take, drop}
+use Rattle.std.proofs.Common.{◌≡◌, ◌++◌, get_or, take, drop}
 use Rattle.std.specs.List.{insert}
 use Rattle.caps.proofs.table.insert_at.Given as goal
 

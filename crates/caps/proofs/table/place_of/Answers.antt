@@ -1,4 +1,4 @@
-use Rattle.std.proofs.Common.{◌≡◌, sym, refl, ◌∙◌, arith}
+use Rattle.std.proofs.Common.{sym, ◌∙◌, arith}
 use Rattle.caps.proofs.Places.{before_here, before_stop, before_all}
 use Rattle.caps.proofs.table.place_of.Goals as goal
 

@@ -1,4 +1,4 @@
-use Rattle.std.proofs.Common.{◌≡◌, ap, ◌∙◌}
+use Rattle.std.proofs.Common.{ap, ◌∙◌}
 use Rattle.pick.specs.Picks.{picked}
 use Rattle.caps.specs.declared.Summit.{Summit}
 use Rattle.envelope.proofs.Views.{highest_is}

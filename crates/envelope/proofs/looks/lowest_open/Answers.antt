@@ -1,4 +1,4 @@
-use Rattle.std.proofs.Common.{◌≡◌, arith}
+use Rattle.std.proofs.Common.{arith}
 use borrow.Author.Differences.{ints}
 use Rattle.caps.proofs.Proved.{laws_of_gaps}
 use Rattle.envelope.proofs.Views.{some_touched, open_is, none_open}

@@ -1,4 +1,4 @@
-use Rattle.std.proofs.Common.{◌≡◌, ℕ, ◌+◌, ◌*◌, ◌/◌, ◌≤◌, ℤ, ◌-ℤ◌, div-le_self, arith, w32, SFits}
+use Rattle.std.proofs.Common.{◌≡◌, ℕ, ◌*◌, ◌≤◌, ◌-ℤ◌, div-le_self, arith, w32, SFits}
 use borrow.Author.Differences.{ints}
 use Rattle.caps.specs.Crossings.{to_nat}
 use Rattle.caps.proofs.Crossings.{to_nat_is}

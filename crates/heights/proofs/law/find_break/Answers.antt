@@ -1,8 +1,8 @@
-use Rattle.std.proofs.Common.{◌≡◌, ℕ, ◌+◌, ◌*◌, ◌<◌, ◌≤◌, true, false, List, length, ℤ, pos, negsuc, ◌+ℤ◌, ◌-ℤ◌, ◌≤ℤ◌, is_some, None, sym, ap, ◌∙◌, mul-le-mul, arith, w32, SFits, to_z, of_z, rules, below_more}
-use Rattle.std.proofs.lemmas.Int.{ints, to_z-of_z}
+use Rattle.std.proofs.Common.{◌≡◌, ℕ, ◌+◌, ◌*◌, ◌<◌, true, false, List, length, ℤ, pos, negsuc, ◌+ℤ◌, ◌-ℤ◌, ◌≤ℤ◌, is_some, None, sym, ap, ◌∙◌, mul-le-mul, arith, w32, to_z, of_z, rules, below_more}
+use Rattle.std.proofs.lemmas.Int.{to_z-of_z}
 use Rattle.std.proofs.lemmas.Bool.{both_ways}
 use Rattle.std.specs.Int.{int_max, int_min}
-use Rattle.heights.specs.Heights.{height_at, marked, breaks, partner, first_outside}
+use Rattle.heights.specs.Heights.{height_at, marked, partner, first_outside}
 use Rattle.heights.specs.Extremes.{stray}
 use Rattle.heights.proofs.Pairs.{ranged_at, near, far, alone, alone_marked, break_none, break_some, bounds_marked, bounds_more, bounds_at}
 use Rattle.heights.proofs.Told.{breaks_are_told}

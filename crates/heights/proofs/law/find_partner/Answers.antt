@@ -1,4 +1,4 @@
-use Rattle.std.proofs.Common.{◌≡◌, ℕ, ◌<◌, true, false, sym, ap, ◌∙◌, arith, w32, SFits, rules, below_more}
+use Rattle.std.proofs.Common.{◌≡◌, ℕ, true, false, sym, arith, w32, SFits, rules, below_more}
 use Rattle.std.proofs.lemmas.Int.{to_z-of_z}
 use Rattle.heights.specs.Heights.{breaks}
 use Rattle.heights.proofs.Lowest.{lowest_none, lowest_some}

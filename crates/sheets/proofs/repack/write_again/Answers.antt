@@ -1,5 +1,5 @@
 use Rattle.std.proofs.Common.{◌≡◌, ℕ, ◌+◌, List, length, is_ok, ap, ◌∙◌}
-use Rattle.records.specs.Sheet.{Sheet, last_of, slope_of, slack_of, heights_of, sheet_with}
+use Rattle.records.specs.Sheet.{last_of, slope_of, slack_of, heights_of, sheet_with}
 use Rattle.records.specs.Verdict.{write_verdict, write_leaves}
 use Rattle.records.specs.Theorem.{Bytes}
 use Rattle.sheets.proofs.Repacks.{answered, left}

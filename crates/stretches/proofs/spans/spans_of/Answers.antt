@@ -1,4 +1,4 @@
-use Rattle.std.proofs.Common.{◌≡◌, ◌∙◌}
+use Rattle.std.proofs.Common.{◌∙◌}
 use Rattle.stretches.proofs.Walked.{none_yet, all_from_0}
 use Rattle.stretches.proofs.Proved.{laws_of_spans}
 use Rattle.stretches.proofs.spans.spans_of.Goals as goal

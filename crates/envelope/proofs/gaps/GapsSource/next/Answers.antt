@@ -1,12 +1,10 @@
-use Rattle.std.proofs.Common.{◌≡◌, ℕ, ◌+◌, ◌<◌, ◌≤◌, get_or, ℤ, pos, nat_abs, Some, sym, refl, ap, ◌∙◌, subst, arith, w32, to_z, of_z, rules}
+use Rattle.std.proofs.Common.{◌≡◌, ◌≤◌, get_or, ℤ, pos, nat_abs, Some, sym, ap, ◌∙◌, arith, w32, to_z, of_z, rules}
 use borrow.Author.Differences.{ints}
 use Rattle.std.specs.Int.{int_min}
 use Rattle.std.proofs.lemmas.Int.{clamps}
 use Rattle.pick.specs.Picks.{head, tail}
 use Rattle.caps.specs.declared.Touch.{Touch}
-use Rattle.envelope.specs.declared.gaps.Gaps.{Gaps}
 use Rattle.caps.specs.Crossings.{rise}
-use Rattle.envelope.specs.Walks.{Walking}
 use Rattle.envelope.proofs.Walks.{t_within, t_low, left_fits, left_small, right_small, walking_on, walking_end, summits_take, summits_skip, summits_none, all_behind, ahead_is, between_is, strip_is, no_more}
 use Rattle.envelope.proofs.gaps.GapsSource.next.Goals as goal
 

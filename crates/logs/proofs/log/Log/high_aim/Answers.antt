@@ -1,4 +1,4 @@
-use Rattle.std.proofs.Common.{◌≡◌, Option, sym, ap, ◌∙◌}
+use Rattle.std.proofs.Common.{Option, sym, ap, ◌∙◌}
 use Rattle.caps.specs.declared.Outlook.{Outlook}
 use Rattle.caps.specs.Outlooks.{settled_by}
 use Rattle.logs.specs.Logs.{state_of, place_seen}

@@ -1,4 +1,4 @@
-use Rattle.std.proofs.Common.{◌≡◌, ℕ, ◌+◌, ◌*◌, ◌<◌, ◌≤◌, pos, sym, ◌∙◌, arith, w32, rules}
+use Rattle.std.proofs.Common.{ℕ, ◌<◌, pos, sym, ◌∙◌, arith, w32, rules}
 use Rattle.std.proofs.lemmas.Int.{to_z-of_z}
 use Rattle.std.proofs.lemmas.List.FromFn.{length-map-range_with_len, get_or-map-range_with_len}
 use Rattle.records.specs.Sheet.{height_of}
