@@ -1,24 +1,25 @@
 -- The certificate that is cut out of a buffer, and what it is where the probing stopped.
-use Rattle.std.proofs.Common.{◌≡◌, ℕ, ◌≤◌, Bool, true, false, cond, List, [], ◌∷◌, ◌++◌, length, take, drop, Some, None, Ok, Err, Option, Result, sym, refl, ap, ◌∙◌, subst, append_assoc, append-nil, arith}
+use Rattle.std.proofs.Common.{◌≡◌, ℕ, ◌+◌, ◌*◌, ◌/◌, ◌≤◌, Bool, true, false, cond, List, [], ◌∷◌, ◌++◌, length, take, drop, Some, None, Ok, Err, Option, Result, nat_lt, sym, refl, ap, ◌∙◌, subst, append_assoc, append-nil, arith}
 use Rattle.std.proofs.lemmas.List.{take_at}
 use Rattle.std.proofs.lemmas.Bool.{cond-false, le-ltb}
 use Rattle.terms.specs.Limits.{touches_max}
 use Rattle.terms.specs.declared.refusal.Refusal.{Refusal}
-use Rattle.terms.specs.declared.refusal.Refusal.TheVariants.{NotSettled}
+use Rattle.terms.specs.declared.refusal.Refusal.TheVariants.{NotSettled, BufferTooShort}
 use Rattle.caps.specs.declared.Touch.{Touch}
 use Rattle.caps.specs.declared.Line.{Line}
 use Rattle.caps.specs.declared.Outlook.{Outlook}
-use Rattle.caps.specs.Outlooks.{outlook, settled_by}
+use Rattle.caps.specs.Outlooks.{outlook, settled_by, seen}
 use Rattle.terms.specs.Meaning.{Meaning}
 use Rattle.records.specs.Laws.{record_meaning}
 use Rattle.surveys.specs.States.{Readings, State, standing, settled, opened}
 use Rattle.surveys.specs.Calls.{high}
-use Rattle.certificates.specs.Layout.{certificate_of, certificate_size}
+use Rattle.fields.specs.Bits.{Field, width_of}
+use Rattle.fields.proofs.Packs.{length-packed}
+use Rattle.certificates.specs.Layout.{touch_fields, certificate_fields, certificate_with, certificate_of, certificate_size}
 use Rattle.certificates.specs.Verdict.{settled_or, with_room, written, certificate_verdict, left_by, certificate_leaves}
-use Rattle.certificates.proofs.Touches.{length_certificate}
 use Rattle.policies.specs.Lines.{known_text}
 use Rattle.policies.specs.Probes.{room, after_highs, touches_told}
-use Rattle.policies.specs.Policies.{bytes_or, certificate_told, or_stop, Closed, probed, survey_text, gauge_name, gauge_of, start_of, text_unless, Ends}
+use Rattle.policies.specs.Policies.{bytes_or, certificate_bytes, certificate_told, or_stop, Closed, probed, survey_text, gauge_name, gauge_of, start_of, text_unless, Ends}
 
 -- where there is room for it, a certificate is refused only by 19 and 20
 roomy : (size room : ℕ) (v : Result Outlook Refusal) → size ≤ room → with_room size room v ≡ v
@@ -33,26 +34,52 @@ uncounted : (size : ℕ) (x : Refusal) (bytes : List ℕ) (v : Result Outlook Re
 uncounted size x bytes (Ok o) e = let z : ◌≡◌ {A = ℕ} 0 1 = cc in absurd (omega arith)
 uncounted size x bytes (Err y) e = let s : x ≡ y = cc in ap (λ (u : Refusal). Err u) s
 
+-- a certificate has its size
+touches_width : (ts : List Touch) → width_of (touch_fields ts) ≡ 28 * length ts
+touches_width [] = refl
+touches_width (t ∷ ts) = omega (arith, touches_width ts)
+
+length_certificate : (line : Line) (tolerance : ℕ) (a : Touch) (ts : List Touch) → length (certificate_of line tolerance a ts) ≡ certificate_size (length (a ∷ ts))
+unfolding certificate_with
+length_certificate line tolerance a ts =
+    let fs : List Field = certificate_fields line tolerance (a ∷ ts) (seen line a ts) in
+    let e : width_of (certificate_fields line tolerance (a ∷ ts) (seen line a ts)) ≡ 98 + 28 * length (a ∷ ts) = omega (arith, touches_width (a ∷ ts)) in
+    length-packed fs ∙ ap (λ n. (n + 7) / 8) e
+
+-- what an accepted writing leaves in the buffer
+module _ (line : Line) (t : ℕ) (ts : List Touch) (old : List ℕ) (size n : ℕ) (o : Outlook) where
+  abbrev left : List ℕ
+  left = certificate_with line t ts o ++ drop (certificate_size (length ts)) old
+
+  by_room : (b : Bool) → Ok n ≡ written size (cond b (Err BufferTooShort) (Ok o)) → left_by line t ts old (cond b (Err BufferTooShort) (Ok o)) ≡ left
+  by_room true e = let z : ◌≡◌ {A = ℕ} 0 1 = cc in absurd (omega arith)
+  by_room false e = refl
+
+  by_settled : (room : ℕ) (b : Bool) → Ok n ≡ written size (with_room size room (cond b (Ok o) (Err NotSettled))) → left_by line t ts old (with_room size room (cond b (Ok o) (Err NotSettled))) ≡ left
+  by_settled room true e = by_room (nat_lt room size) e
+  by_settled room false e = let z : ◌≡◌ {A = ℕ} 0 1 = cc in absurd (omega arith)
+
 module _ (line : Line) (t : ℕ) (room : ℕ) where
   enough : (ts : List Touch) → length ts ≤ touches_max → room ≡ certificate_size touches_max → certificate_verdict line t ts room ≡ written (certificate_size (length ts)) (settled_or t (outlook line ts))
   enough ts few long = ap (written (certificate_size (length ts))) (roomy (certificate_size (length ts)) room (settled_or t (outlook line ts)) (omega arith))
 
   pub certificate_cut : (ts : List Touch) (old new : List ℕ) (n : ℕ) → room ≡ length old → length ts ≤ touches_max → room ≡ certificate_size touches_max → Ok n ≡ certificate_verdict line t ts (length old) →
-      new ≡ certificate_leaves line t ts old → Ok (take n new) ≡ bytes_or (certificate_of line t ts) (settled_or t (outlook line ts))
+      new ≡ certificate_leaves line t ts old → Ok (take n new) ≡ bytes_or (certificate_bytes line t ts) (settled_or t (outlook line ts))
   certificate_cut [] old new n r few long v b = let z : ◌≡◌ {A = ℕ} 0 1 = cc in absurd (omega arith)
   certificate_cut (a ∷ ts) old new n r few long v b =
       let all = a ∷ ts in
-      let bytes = certificate_of line t (a ∷ ts) in
+      let size : ℕ = certificate_size (length (a ∷ ts)) in
+      let bytes = certificate_of line t a ts in
       let here = v ∙ ap (certificate_verdict line t (a ∷ ts)) (sym r) ∙ enough (a ∷ ts) few long in
       let c = counted (certificate_size (length (a ∷ ts))) n bytes (settled_or t (outlook line (a ∷ ts))) here in
-      let front : new ≡ bytes ++ drop n old = b ∙ ap (left_by bytes old) (sym v) in
-      let cut : take n new ≡ bytes = ap (take n) front ∙ take_at bytes (drop n old) n (length_certificate line t a ts ∙ sym c.0) in
+      let front : new ≡ bytes ++ drop size old = b ∙ by_settled line t (a ∷ ts) old size n (seen line a ts) (length old) (settled_by (outlook line (a ∷ ts)) t) v in
+      let cut : take n new ≡ bytes = ap (take n) front ∙ take_at bytes (drop size old) n (length_certificate line t a ts ∙ sym c.0) in
       ap (λ (x : List ℕ). Ok x) cut ∙ c.1
 
   pub certificate_refused : (ts : List Touch) (old : List ℕ) (x : Refusal) → room ≡ length old → length ts ≤ touches_max → room ≡ certificate_size touches_max → Err x ≡ certificate_verdict line t ts (length old) →
-      Err x ≡ bytes_or (certificate_of line t ts) (settled_or t (outlook line ts))
+      Err x ≡ bytes_or (certificate_bytes line t ts) (settled_or t (outlook line ts))
   certificate_refused ts old x r few long v =
-      uncounted (certificate_size (length ts)) x (certificate_of line t ts) (settled_or t (outlook line ts)) (v ∙ ap (certificate_verdict line t ts) (sym r) ∙ enough ts few long)
+      uncounted (certificate_size (length ts)) x (certificate_bytes line t ts) (settled_or t (outlook line ts)) (v ∙ ap (certificate_verdict line t ts) (sym r) ∙ enough ts few long)
 
 -- a survey without a certificate is not settled
 by_test : (b : Bool) (o : Outlook) (bytes : List ℕ) (e : Refusal) → Err e ≡ bytes_or bytes (cond b (Ok o) (Err NotSettled)) → b ≡ false
@@ -65,7 +92,7 @@ unsettled t (Some o) bytes e h = by_test (settled_by (Some o) t) o bytes e h
 
 pub closed : (R : Readings) (s : State) (stop : Refusal) (c v : Result (List ℕ) Refusal) → (high R s).answer ≡ Err stop → v ≡ certificate_told s → c ≡ or_stop stop v → Closed R s c
 closed R s stop c (Ok bytes) h v e = subst (Closed R s) (sym e) v
-closed R s stop c (Err x) h v e = subst (Closed R s) (sym e) (unsettled s.tolerance (standing s) (certificate_of s.line s.tolerance s.touches) x v, h)
+closed R s stop c (Err x) h v e = subst (Closed R s) (sym e) (unsettled s.tolerance (standing s) (certificate_bytes s.line s.tolerance s.touches) x v, h)
 
 -- the same of the survey that was opened, with what was printed
 module _ (m : Meaning) (s : State) (R : Readings) (start after : State) (same : R ≡ m.reading) (opens : start ≡ s) (left : after ≡ after_highs (room start) R start) where

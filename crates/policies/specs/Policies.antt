@@ -1,11 +1,13 @@
 -- What a policy has: the certificate, and the text that is printed on the way to it.
-use Rattle.std.specs.Prelude.{◌≡◌, ℕ, false, List, [], ◌++◌, Some, None, Ok, Err, Option, Result}
+use Rattle.std.specs.Prelude.{◌≡◌, ℕ, false, List, [], ◌∷◌, ◌++◌, Some, None, Ok, Err, Option, Result}
 use Rattle.terms.specs.Limits.{touches_max}
 use Rattle.terms.specs.Meaning.{Meaning}
 use Rattle.terms.specs.declared.refusal.Refusal.{Refusal}
 use Rattle.heights.specs.Verdicts.{Verdict}
 use Rattle.records.specs.Laws.{record_meaning}
 use Rattle.records.specs.Verdict.{record_verdict}
+use Rattle.caps.specs.declared.Touch.{Touch}
+use Rattle.caps.specs.declared.Line.{Line}
 use Rattle.caps.specs.declared.Outlook.{Outlook}
 use Rattle.surveys.specs.States.{Readings, State, standing, settled, opened, opening_refusal}
 use Rattle.surveys.specs.Calls.{high}
@@ -23,9 +25,14 @@ abbrev pub bytes_or : List ℕ → Result Outlook Refusal → Result (List ℕ) 
 bytes_or bytes (Ok o) = Ok bytes
 bytes_or bytes (Err e) = Err e
 
+-- the certificate of a list of touches; of no touches there is none
+abbrev pub certificate_bytes : Line → ℕ → List Touch → List ℕ
+certificate_bytes line tolerance [] = []
+certificate_bytes line tolerance (a ∷ ts) = certificate_of line tolerance a ts
+
 -- the certificate of a survey: else 19, nothing is touched, or 20, it is not settled
 abbrev pub certificate_told : State → Result (List ℕ) Refusal
-certificate_told s = bytes_or (certificate_of s.line s.tolerance s.touches) (settled_or s.tolerance (standing s))
+certificate_told s = bytes_or (certificate_bytes s.line s.tolerance s.touches) (settled_or s.tolerance (standing s))
 
 -- the certificate, or the refusal that the probing stopped with
 abbrev pub or_stop : Refusal → Result (List ℕ) Refusal → Result (List ℕ) Refusal

@@ -30,7 +30,7 @@ loop-touch-preserved g c =
     let e = c.in-Ok.ensures.answer ∙ ap (λ (u : g.row.G.Denot). (high (g.G.Gauge.meaning u).reading s).answer) inv.0 in
     let n = c.high.ensures.state ∙ ap (λ (u : g.row.G.Denot). (high (g.G.Gauge.meaning u).reading s).after) inv.0 in
     let said = g.P.Paper.said c.loop-touch.paper in
-    let m = c.in_ok-tell_touch.ensures ∙ ap (λ (l : Log). said ++ made_text (state_of l) c.in-Ok.touch) c.log.ensures in
+    let m = c.in_ok-tell_touch-in-Ok.ensures ∙ ap (λ (l : Log). said ++ made_text (state_of l) c.in-Ok.touch) c.log.ensures in
     (c.high.ensures.gauge ∙ inv.0, accepted R (state_of c.args.survey.now.log) (g.P.Paper.said c.args.paper.now) s said c.in-Ok.touch _ _ few e n m inv.1)
 
 pub returns-in-Err : goal.returns-in-Err
