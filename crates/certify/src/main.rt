@@ -3,16 +3,19 @@
 
 use forms::command::{read_tolerance, run};
 use std::env;
+use std::process::ExitCode;
 
 // Reads the tolerance and does the work.
 fn work(rt: &HostRuntime) -> anyhow::Result<()> {
     run(rt, read_tolerance(env::args(rt)?)?)
 }
 
-fn main(rt: HostRuntime) -> anyhow::Result<()> {
-    let result = work(&rt);
-    if let Err(error) = &result {
-        let _ = eprintln!(rt; "certify: {error}");
+fn main(rt: HostRuntime) -> ExitCode {
+    match work(&rt) {
+        Ok(()) => ExitCode::SUCCESS,
+        Err(error) => {
+            let _ = eprintln!(rt; "certify: {error}");
+            ExitCode::FAILURE
+        }
     }
-    result
 }

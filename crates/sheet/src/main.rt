@@ -4,16 +4,19 @@
 use reports::arguments::read_command;
 use reports::commands::run;
 use std::env;
+use std::process::ExitCode;
 
 // Reads the words and does what they say.
 fn work(rt: &HostRuntime) -> anyhow::Result<()> {
     run(rt, read_command(env::args(rt)?)?)
 }
 
-fn main(rt: HostRuntime) -> anyhow::Result<()> {
-    let result = work(&rt);
-    if let Err(error) = &result {
-        let _ = eprintln!(rt; "sheet: {error}");
+fn main(rt: HostRuntime) -> ExitCode {
+    match work(&rt) {
+        Ok(()) => ExitCode::SUCCESS,
+        Err(error) => {
+            let _ = eprintln!(rt; "sheet: {error}");
+            ExitCode::FAILURE
+        }
     }
-    result
 }
