@@ -2,6 +2,7 @@
 #![tactic(auto)]
 
 use std::io::{ErrorKind, Read, Write};
+use std::process::ExitCode;
 use std::{fs, io};
 use transcripts::print::{input_bound, is_accepted, print, sheet_bound};
 
@@ -38,6 +39,12 @@ fn run(rt: &HostRuntime) -> anyhow::Result<()> {
     Ok(())
 }
 
-fn main(rt: HostRuntime) -> anyhow::Result<()> {
-    run(&rt)
+fn main(rt: HostRuntime) -> ExitCode {
+    match run(&rt) {
+        Ok(()) => ExitCode::SUCCESS,
+        Err(error) => {
+            let _ = eprintln!(rt; "survey: {error}");
+            ExitCode::FAILURE
+        }
+    }
 }
