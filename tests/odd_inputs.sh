@@ -1,18 +1,24 @@
 #!/bin/sh
 # Endless, huge and odd inputs against the programs sheet, survey and certify.
 # Each case must end in time with the documented output and status 0, or with one line on standard error and status 1.
-# Usage: tests/odd_inputs.sh [FOLDER], where FOLDER has the programs (default: target/bin, as `rt check sheet survey certify` leaves it).
+# Usage: tests/odd_inputs.sh [FOLDER], where FOLDER has the programs (default: those that `make programs` leaves in crates/NAME/out).
 set -u
 root=$(cd "$(dirname "$0")/.." && pwd)
-programs=${1:-$root/target/bin}
+
+# Where the program of that name is.
+program() {
+    if [ -n "${folder_given:-}" ]; then echo "$folder_given/$1"; else echo "$root/crates/$1/out/$1"; fi
+}
+
+folder_given=${1:-}
 for name in sheet survey certify; do
-    [ -x "$programs/$name" ] || { echo "no program $programs/$name; run: rt check sheet survey certify" >&2; exit 2; }
+    [ -x "$(program "$name")" ] || { echo "no program $(program "$name"); run: make programs" >&2; exit 2; }
 done
 
 work=$(mktemp -d)
 trap 'chmod -R u+rwx "$work" && rm -rf "$work"' EXIT
 mkdir "$work/bin" "$work/cases"
-cp "$programs/sheet" "$programs/survey" "$programs/certify" "$work/bin"
+cp "$(program sheet)" "$(program survey)" "$(program certify)" "$work/bin"
 chmod 755 "$work" "$work/bin"
 chmod 777 "$work/cases"
 good=$root/examples/sheet.rec
