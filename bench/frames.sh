@@ -3,7 +3,7 @@
 # the return address, the registers it saves and the room it takes. Run bench/run.sh first, which builds the library.
 set -eu
 cd "$(dirname "$0")/.."
-objdump -d --no-show-raw-insn target/staticlib/libexports.a | awk '
+objdump -d --no-show-raw-insn crates/exports/out/libexports.a | awk '
 function hex(text,    n, i) {
     n = 0
     for (i = 1; i <= length(text); i++) n = 16 * n + index("0123456789abcdef", substr(text, i, 1)) - 1

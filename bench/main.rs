@@ -21,7 +21,8 @@ struct Figures {
 
 #[link(name = "exports", kind = "static")]
 #[link(name = "exports_text", kind = "static")]
-#[link(name = "rattle_c", kind = "static")]
+#[link(name = "libc_c", kind = "static")]
+#[link(name = "os_c", kind = "static")]
 unsafe extern "C" {
     fn survey_check(record: *const u8, record_length: usize, name: u8) -> u8;
     fn survey_run(

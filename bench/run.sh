@@ -3,14 +3,14 @@
 # and prints the library's time and instructions over those of the hand-written program. Nothing here is part of the gate.
 set -eu
 cd "$(dirname "$0")/.."
-kit=$(dirname "$(dirname "$(rt doc)")")
+kit=$(dirname "$(rt doc)")
 out=target/bench
 mkdir -p "$out"
 
 for crate in exports exports_text; do
-    rt staticlib "$crate" > "$out/$crate.log" 2>&1 || { tail -n 3 "$out/$crate.log"; exit 1; }
+    (cd "crates/$crate" && rt lib) > "$out/$crate.log" 2>&1 || { tail -n 3 "$out/$crate.log"; exit 1; }
 done
-rustc --edition 2024 -C opt-level=3 -C codegen-units=1 -L target/staticlib -L "$kit/lib" -o "$out/bench" bench/main.rs
+rustc --edition 2024 -C opt-level=3 -C codegen-units=1 -L crates/exports/out -L crates/exports_text/out -L "$kit/c" -o "$out/bench" bench/main.rs
 "$out/bench" compare
 "$out/bench" time
 
