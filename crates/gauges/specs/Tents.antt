@@ -30,7 +30,7 @@ abbrev pub crown_verdict : (last crown : ℕ) → Verdict
 crown_verdict last crown = cond (nat_lt last crown) (Err PositionBeyondLast) (Ok tt)
 
 -- what a tent's tests answer: the first refusal in order that holds of its figures, the slack being 0
--- `andOther a b` is the refusal of a, and where a has none it is b
+-- `result_and a b` is the refusal of a, and where a has none it is b
 abbrev pub tent_verdict : (last slope crown : ℕ) (height : ℤ) (name : ℕ) → Verdict
 tent_verdict last slope crown height name =
     result_and (line_verdict last slope 0)

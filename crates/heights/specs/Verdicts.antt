@@ -1,5 +1,5 @@
 -- What the tests of a sheet answer: nothing, or the first refusal in the order of the numbers whose condition holds.
--- `andOther a b` is the refusal of a, and where a has none it is b.
+-- `result_and a b` is the refusal of a, and where a has none it is b.
 use Rattle.std.specs.Prelude.{ℕ, ◌-◌, cond, ◌||◌, List, length, ℤ, Some, None, Ok, Err, Option, Result, ◌==◌, nat_lt}
 use Rattle.std.specs.Result.{result_and}
 use Rattle.terms.specs.declared.refusal.Refusal.{Refusal}

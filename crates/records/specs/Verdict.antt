@@ -1,5 +1,5 @@
 -- What the tests of a record's bytes, and of a sheet that is to be written, answer.
--- `andOther a b` is the refusal of a, and where a has none it is b.
+-- `result_and a b` is the refusal of a, and where a has none it is b.
 use Rattle.std.specs.Prelude.{ℕ, ◌+◌, ◌*◌, cond, List, ◌++◌, length, drop, is_ok, Ok, Err, Result, ◌==◌, nat_lt}
 use Rattle.std.specs.Result.{result_and}
 use Rattle.terms.specs.declared.refusal.Refusal.{Refusal}
