@@ -1,6 +1,5 @@
 -- A text's record, or why there is none.
 use Rattle.std.proofs.Common.{◌≡◌, ℕ, List, ℤ, Ok, Err, Result, sym, ap, ◌∙◌, subst}
-use Rattle.texts.specs.declared.sheet.Sheet.{Sheet}
 use Rattle.texts.specs.declared.sheet.TextError.{TextError}
 use Rattle.texts.specs.declared.sheet.TextError.TheVariants as text
 use Rattle.texts.specs.Words.{words}

@@ -1,19 +1,19 @@
 -- Lines put one after another are the defined ones.
-use Rattle.std.proofs.Common.{◌≡◌, ℕ, List, [], ◌∷◌, ◌++◌, ℤ, Some, None, Ok, Err, Option, Result, sym, refl, ap, ◌∙◌, subst}
+use Rattle.std.proofs.Common.{◌≡◌, ℕ, List, [], ◌∷◌, ◌++◌, ℤ, Some, None, Ok, Err, Option, Result, sym, ap, ◌∙◌, subst}
 use Rattle.std.specs.Result.{result_and}
 use Rattle.terms.specs.declared.refusal.Refusal.{Refusal}
 use Rattle.terms.specs.Meaning.{Meaning}
 use Rattle.gauges.specs.declared.tent.Tent.{Tent}
 use Rattle.gauges.specs.Made.{TentOf}
 use Rattle.gauges.specs.Tents.{tent_meaning}
-use Rattle.layers.specs.Layers.{step_verdict, coarse_meaning, sum_meaning}
+use Rattle.layers.specs.Layers.{step_verdict, coarse_meaning}
 use Rattle.records.specs.Laws.{record_meaning}
 use Rattle.records.specs.Verdict.{record_verdict}
 use Rattle.accounts.specs.declared.failure.NoReport.{NoReport}
 use Rattle.accounts.specs.declared.failure.NoReport.TheVariants.{Refused, NoMemory}
 use Rattle.accounts.specs.declared.stack.Beam.{Beam}
 use Rattle.accounts.specs.Lines.{and_lines, stack_lines}
-use Rattle.accounts.specs.Reports.{record_name, beam_name, record_lines, Lines, with_heading, step_heading, beam_heading, coarse_lines, stepped, beam_verdict, beamed, layered, after_text, report_of}
+use Rattle.accounts.specs.Reports.{record_name, record_lines, Lines, with_heading, step_heading, beam_heading, coarse_lines, stepped, beam_verdict, beamed, layered, after_text, report_of}
 use Rattle.accounts.specs.Failures.{Puts}
 
 abbrev whole : List ℕ → Result (List ℕ) Refusal

@@ -1,9 +1,8 @@
 -- The lines of a report.
-use Rattle.std.specs.Prelude.{ℕ, ◌+◌, ◌/◌, List, [], ◌∷◌, ◌++◌, length, Some, None, Ok, Err, codes, decimal, Option}
+use Rattle.std.specs.Prelude.{ℕ, ◌+◌, ◌/◌, List, [], ◌∷◌, ◌++◌, Some, None, Ok, Err, codes, decimal, Option}
 use Rattle.std.specs.Fmt.{signed_decimal}
 use Rattle.terms.specs.Meaning.{Meaning, Reading}
 use Rattle.terms.specs.Texts.{fault_text}
-use Rattle.records.specs.Laws.{record_meaning}
 use Rattle.sheets.specs.declared.summary.Spot.{Spot}
 use Rattle.sheets.specs.declared.summary.Summary.{Summary}
 use Rattle.sheets.specs.Summaries.{summary_before}

@@ -1,5 +1,5 @@
 -- Heights as words, and what a touch and a search come to.
-use Rattle.std.proofs.Common.{◌≡◌, ℕ, Bool, true, false, cond, ℤ, Some, None, Ok, sym, refl, ap, ◌∙◌, arith, w16, w32, to_z, of_z}
+use Rattle.std.proofs.Common.{◌≡◌, ℕ, Bool, true, false, cond, ℤ, Some, None, Ok, refl, ap, ◌∙◌, arith, w16, w32, to_z, of_z}
 use Rattle.std.proofs.lemmas.Int.{ints}
 use Rattle.terms.specs.Meaning.{Height, Reading}
 use Rattle.terms.specs.declared.refusal.Refusal.TheVariants.{AlreadySettled, LimitReached}

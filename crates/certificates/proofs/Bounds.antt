@@ -1,5 +1,5 @@
 -- What a certificate says of the sheet.
-use Rattle.std.proofs.Common.{◌≡◌, ℕ, ◌≤◌, true, List, ◌∷◌, ℤ, pos, ◌+ℤ◌, ◌≤ℤ◌, refl, arith}
+use Rattle.std.proofs.Common.{◌≡◌, true, ◌∷◌, ℤ, ◌≤ℤ◌, refl, arith}
 use lib.Signed.{le_z}
 use Rattle.std.proofs.lemmas.Int.{ints}
 use Rattle.terms.specs.Meaning.{distance}

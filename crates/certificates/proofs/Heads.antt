@@ -1,7 +1,6 @@
 -- The fields of a certificate fit, and those before the touches are written one after another.
-use Rattle.std.proofs.Common.{◌≡◌, ℕ, zero, suc, ◌+◌, ◌*◌, ◌^◌, ◌<◌, ◌≤◌, List, [], ◌∷◌, length, get_or, pos, sym, refl, ap, ◌∙◌, subst, arith}
-use Rattle.std.specs.List.{AllByRecursion}
-use Rattle.fields.specs.Bits.{Field, bits_of, width_of, num, Fit, Reads, Stored, complement_of}
+use Rattle.std.proofs.Common.{ℕ, ◌<◌, List, length}
+use Rattle.fields.specs.Bits.{Field, bits_of, Fit, Reads, Stored, complement_of}
 use Rattle.fields.proofs.Signs.{complement_lt}
 use Rattle.fields.proofs.Writes.{Wrote, wrote_none, wrote_field, reads_own}
 use Rattle.caps.specs.declared.Touch.{Touch}

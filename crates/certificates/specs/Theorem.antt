@@ -1,5 +1,5 @@
 -- What a certificate says of the sheet, and the worked example.
-use Rattle.std.specs.Prelude.{◌≡◌, ℕ, true, List, [], ◌∷◌, length, ℤ, pos, ◌+ℤ◌, ◌≤ℤ◌, Some, Ok, Err}
+use Rattle.std.specs.Prelude.{◌≡◌, ℕ, true, List, [], ◌∷◌, ℤ, pos, ◌+ℤ◌, ◌≤ℤ◌, Some, Ok, Err}
 use Rattle.terms.specs.Meaning.{Meaning, Lawful}
 use Rattle.surveys.specs.declared.calls.Call.{Call}
 use Rattle.surveys.specs.States.{line_of, opened}
@@ -11,7 +11,6 @@ use Rattle.caps.specs.declared.Line.{Line}
 use Rattle.caps.specs.Touches.{LawfulTouches}
 use Rattle.caps.specs.Caps.{ceiling, floor, NoneAbove}
 use Rattle.caps.specs.Outlooks.{outlook, is_settled}
-use Rattle.certificates.specs.Layout.{certificate_size}
 use Rattle.certificates.specs.Verdict.{certificate_verdict}
 
 abbrev touch : ℕ → ℤ → Touch

@@ -1,5 +1,5 @@
 -- What writing a certificate answers, and what the buffer then has.
-use Rattle.std.specs.Prelude.{ℕ, cond, List, ◌++◌, length, drop, is_ok, Some, None, Ok, Err, Option, Result, nat_lt}
+use Rattle.std.specs.Prelude.{ℕ, cond, List, ◌++◌, length, drop, Some, None, Ok, Err, Option, Result, nat_lt}
 use Rattle.terms.specs.declared.refusal.Refusal.{Refusal}
 use Rattle.terms.specs.declared.refusal.Refusal.TheVariants.{NothingTouched, NotSettled, BufferTooShort}
 use Rattle.caps.specs.declared.Touch.{Touch}

@@ -11,7 +11,7 @@ use Rattle.caps.specs.declared.Outlook.{Outlook}
 use Rattle.caps.specs.Outlooks.{outlook, settled_by, seen}
 use Rattle.terms.specs.Meaning.{Meaning}
 use Rattle.records.specs.Laws.{record_meaning}
-use Rattle.surveys.specs.States.{Readings, State, standing, settled, opened}
+use Rattle.surveys.specs.States.{Readings, State, standing, opened}
 use Rattle.surveys.specs.Calls.{high}
 use Rattle.fields.specs.Bits.{Field, width_of}
 use Rattle.fields.proofs.Packs.{length-packed}

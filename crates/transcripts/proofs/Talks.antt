@@ -1,5 +1,5 @@
 -- The law over the calls of an input.
-use Rattle.std.proofs.Common.{◌≡◌, ℕ, List, [], ◌∷◌, length, Some, None, Option, refl, ◌∙◌}
+use Rattle.std.proofs.Common.{◌≡◌, List, [], ◌∷◌, length, Some, None, Option, refl}
 use Rattle.terms.specs.Limits.{touches_max}
 use Rattle.records.specs.Laws.{record_lawful}
 use Rattle.surveys.specs.declared.calls.Call.{Call}

@@ -1,18 +1,18 @@
 -- What ask tells is the survey as it stands, so the lines printed from the answers are the transcript.
-use Rattle.std.proofs.Common.{◌≡◌, ℕ, List, [], ◌∷◌, ◌++◌, length, drop, Some, None, Option, sym, refl, ap, ◌∙◌}
+use Rattle.std.proofs.Common.{◌≡◌, ℕ, List, [], ◌∷◌, ◌++◌, drop, Some, None, Option, refl, ap, ◌∙◌}
 use Rattle.caps.specs.declared.Touch.{Touch}
 use Rattle.caps.specs.declared.Line.{Line}
 use Rattle.surveys.specs.declared.calls.Call.{Call}
 use Rattle.surveys.specs.declared.calls.Call.TheVariants.{Ask}
 use Rattle.surveys.specs.declared.answers.Answer.{Answer}
 use Rattle.surveys.specs.declared.answers.Answer.TheVariants.{Told}
-use Rattle.surveys.specs.States.{Readings, State, standing}
+use Rattle.surveys.specs.States.{Readings, State}
 use Rattle.surveys.specs.Calls.{ask}
 use Rattle.surveys.specs.Moments.{answers_to}
 use Rattle.commands.specs.Lines.{line_end}
 use Rattle.commands.specs.Orders.{Order, verb_of, call_of}
-use Rattle.transcripts.specs.Entries.{entry_text, bounds_in, printed_line}
-use Rattle.transcripts.specs.Told.{with_call, asked, used, touches_told, bounds_told, number_told, figures_told, told_text, lines_told}
+use Rattle.transcripts.specs.Entries.{entry_text, printed_line}
+use Rattle.transcripts.specs.Told.{with_call, asked, used, touches_told, bounds_told, number_told, figures_told, lines_told}
 use Rattle.transcripts.specs.Transcripts.{number_after, state_after, transcript}
 
 abbrev state : Line → ℕ → ℕ → List Touch → State

@@ -1,14 +1,13 @@
 -- The words of a printed line.
-use Rattle.std.proofs.Common.{◌≡◌, ℕ, zero, suc, ◌+◌, ◌/◌, ◌%◌, ◌<◌, Bool, true, false, cond, eqb, ltb, List, [], ◌∷◌, length, get_or, ℤ, pos, negsuc, Some, None, codes, decimal, Option, refl, mod-lt, arith, lit<}
+use Rattle.std.proofs.Common.{ℕ, zero, suc, ◌+◌, ◌/◌, ◌%◌, ◌<◌, false, eqb, ltb, List, [], ◌∷◌, length, ℤ, pos, negsuc, Some, None, codes, decimal, refl, arith, lit<}
 use Rattle.std.specs.Str.Iter.{LacksByte}
 use Rattle.std.specs.Fmt.{digits, digits_onto, digit_glyph, signed_decimal}
 use Rattle.std.specs.List.{AllByRecursion}
-use Rattle.std.proofs.lemmas.Bool.{cond_both, ltb-true, ltb-false}
+use Rattle.std.proofs.lemmas.Bool.{cond_both}
 use Rattle.commands.specs.Lines.{line_end, space}
 use Rattle.commands.specs.Orders.{Order, high, left, ask, at, run, tol, unknown, verb_of}
-use Rattle.transcripts.specs.declared.entry.Bounds.{Bounds}
-use Rattle.transcripts.specs.Entries.{dash, bounds_words, words}
-use Rattle.transcripts.specs.Talks.{IsWord, AreSix, SixWords}
+use Rattle.transcripts.specs.Entries.{dash}
+use Rattle.transcripts.specs.Talks.{IsWord, SixWords}
 
 -- bytes above the space
 abbrev Visible : List ℕ → Type 0

@@ -1,4 +1,4 @@
-use Rattle.std.proofs.Common.{◌≡◌, length, ap, ◌∙◌}
+use Rattle.std.proofs.Common.{length, ap, ◌∙◌}
 use Rattle.surveys.specs.States.{State}
 use Rattle.logs.specs.Logs.{state_of}
 use Rattle.certificates.specs.Verdict.{verdict_on, left_by_survey}

@@ -1,7 +1,6 @@
-use Rattle.std.proofs.Common.{◌≡◌, min, List, ◌++◌, length, get_or, take, drop, sym, refl, ap, ◌∙◌, arith}
+use Rattle.std.proofs.Common.{◌≡◌, List, ◌++◌, length, get_or, take, drop, sym, refl, ap, ◌∙◌, arith}
 use Rattle.std.proofs.lemmas.List.{length-take, take_all}
 use Rattle.std.proofs.lemmas.Slice.{drop-append-drop}
-use Rattle.terms.specs.Meaning.{Meaning}
 use Rattle.surveys.specs.declared.calls.Call.TheVariants.{High}
 use Rattle.surveys.specs.declared.answers.Answer.{Answer}
 use Rattle.surveys.specs.States.{State, opened}

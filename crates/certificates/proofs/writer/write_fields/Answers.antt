@@ -1,4 +1,4 @@
-use Rattle.std.proofs.Common.{ℕ, length, arith}
+use Rattle.std.proofs.Common.{length, arith}
 use Rattle.certificates.proofs.Heads.{HeadFits}
 use Rattle.certificates.proofs.Touches.{all_low, all_written}
 use Rattle.certificates.proofs.writer.write_fields.Goals as goal

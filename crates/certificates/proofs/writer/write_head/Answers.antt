@@ -1,4 +1,4 @@
-use Rattle.std.proofs.Common.{◌≡◌, ℕ, ◌<◌, List, length, sym, subst, arith}
+use Rattle.std.proofs.Common.{◌≡◌, ℕ, List, length, sym, subst, arith}
 use Rattle.fields.specs.Bits.{Stored}
 use Rattle.certificates.proofs.Heads.{HeadFits, head_wrote}
 use Rattle.certificates.proofs.writer.write_head.Goals as goal

@@ -1,4 +1,4 @@
-use Rattle.std.proofs.Common.{◌≡◌, ℕ, ◌+◌, ◌*◌, ◌≤◌, length, pos, subst, arith}
+use Rattle.std.proofs.Common.{◌≡◌, ◌+◌, ◌*◌, ◌≤◌, length, pos, subst, arith}
 use Rattle.std.proofs.ByRecursion.{All-get_or}
 use Rattle.fields.proofs.Writes.{Wrote}
 use Rattle.caps.specs.declared.Touch.{Touch}

@@ -1,4 +1,4 @@
-use Rattle.std.proofs.Common.{◌≡◌, string_bytes, ◌∙◌}
+use Rattle.std.proofs.Common.{string_bytes, ◌∙◌}
 use Rattle.policies.proofs.Texts.{one_more, all_told}
 use Rattle.policies.proofs.lines.put_spans.Goals as goal
 

@@ -1,7 +1,6 @@
 use Rattle.std.proofs.Common.{◌≡◌, ℕ, ◌≤◌, List, length, take, Ok, refl, ap, ◌∙◌, arith}
 use Rattle.std.proofs.lemmas.List.{with_items_is}
 use Rattle.terms.specs.Limits.{touches_max}
-use Rattle.terms.specs.declared.refusal.Refusal.{Refusal}
 use Rattle.logs.specs.Logs.{state_of}
 use Rattle.logs.proofs.Tables.{count_is}
 use Rattle.certificates.specs.Layout.{certificate_size}

@@ -1,4 +1,4 @@
-use Rattle.std.proofs.Common.{◌≡◌, ◌++◌, ap, ◌∙◌}
+use Rattle.std.proofs.Common.{◌++◌, ap, ◌∙◌}
 use Rattle.surveys.specs.States.{opened}
 use Rattle.logs.specs.declared.log.Log.{Log}
 use Rattle.logs.specs.Logs.{state_of}

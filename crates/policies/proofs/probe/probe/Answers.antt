@@ -1,4 +1,4 @@
-use Rattle.std.proofs.Common.{◌≡◌, ℕ, suc, ◌≤◌, [], ◌++◌, length, sym, ap, ◌∙◌, arith}
+use Rattle.std.proofs.Common.{◌≡◌, suc, ◌≤◌, [], ◌++◌, length, sym, ap, ◌∙◌, arith}
 use Rattle.surveys.specs.States.{State}
 use Rattle.surveys.specs.Calls.{high}
 use Rattle.logs.specs.declared.log.Log.{Log}

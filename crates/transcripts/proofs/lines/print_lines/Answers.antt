@@ -1,6 +1,6 @@
-use Rattle.std.proofs.Common.{◌≡◌, ◌+◌, ◌++◌, length, drop, string_bytes, sym, ap, ◌∙◌, arith}
+use Rattle.std.proofs.Common.{◌≡◌, ◌+◌, ◌++◌, drop, string_bytes, ap, ◌∙◌, arith}
 use Rattle.std.proofs.lemmas.List.{take_rest}
-use Rattle.commands.specs.Orders.{order, call_of}
+use Rattle.commands.specs.Orders.{order}
 use Rattle.commands.specs.Scripts.{to_come}
 use Rattle.transcripts.specs.Entries.{text_of}
 use Rattle.transcripts.specs.Told.{lines_told, told_text}

@@ -1,4 +1,4 @@
-use Rattle.std.proofs.Common.{◌≡◌, ℕ, List, length, IfOk, string_bytes, sym, ap, ◌∙◌, subst}
+use Rattle.std.proofs.Common.{◌≡◌, ℕ, List, length, IfOk, string_bytes, ap, ◌∙◌, subst}
 use Rattle.surveys.specs.Moments.{answers_to}
 use Rattle.surveys.proofs.Moments.{answers_long}
 use Rattle.commands.specs.Orders.{orders}

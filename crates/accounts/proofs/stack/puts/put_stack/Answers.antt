@@ -1,4 +1,4 @@
-use Rattle.std.proofs.Common.{ℕ, ℤ, string_bytes, ap, ◌∙◌}
+use Rattle.std.proofs.Common.{string_bytes, ap, ◌∙◌}
 use Rattle.terms.specs.Meaning.{Meaning}
 use Rattle.gauges.specs.declared.tent.Tent.{Tent}
 use Rattle.gauges.specs.Tents.{tent_meaning}

@@ -1,4 +1,4 @@
-use Rattle.std.proofs.Common.{◌≡◌, ◌+◌, ◌-◌, ◌≤◌, sym, ap, ◌∙◌, arith}
+use Rattle.std.proofs.Common.{sym, ap, ◌∙◌, arith}
 use Rattle.surveys.specs.declared.answers.Course.{Course}
 use Rattle.surveys.specs.Calls.{Outcome}
 use Rattle.logs.specs.Logs.{state_of}

@@ -1,4 +1,4 @@
-use Rattle.std.proofs.Common.{ℕ, Option, Result, ap, ◌∙◌}
+use Rattle.std.proofs.Common.{Result, ap, ◌∙◌}
 use Rattle.terms.specs.declared.refusal.Refusal.{Refusal}
 use Rattle.caps.specs.declared.Touch.{Touch}
 use Rattle.surveys.specs.Calls.{Outcome}
