@@ -4,12 +4,12 @@ ghost use Rattle.terms.specs.Limits.{last_max, slope_max, slack_max};
 ghost use Rattle.heights.specs.Heights.{allowed, first_outside};
 ghost use Rattle.heights.specs.Verdicts.{line_verdict, heights_verdict, sheet_verdict, name_verdict};
 
-use crate::law::find_break;
+use crate::law::{Bound, find_break, is_marked};
 use crate::list::Heights;
-use terms::limits::{HEIGHT_MAX, LAST_MAX, SLACK_MAX, SLOPE_MAX, UNREAD};
+use terms::limits::{LAST_MAX, SLACK_MAX, SLOPE_MAX, is_height};
 use terms::refusal::Refusal;
 
-// The tests of a last position, a slope and a slack.
+// The tests of a last position, a slope and a slack; they come as plain numbers, since before the tests there is no fact of them to hold.
 pub fn check_line(last: usize, slope: u32, slack: u32) -> Result<(), Refusal>
     ensures { result ≡ line_verdict last slope slack }
 {
@@ -40,7 +40,7 @@ pub fn check_name(name: u8) -> Result<(), Refusal>
 fn is_allowed(height: i32) -> bool
     ensures { result ≡ allowed height }
 {
-    height == UNREAD || -HEIGHT_MAX <= height && height <= HEIGHT_MAX
+    is_marked(height) || is_height(height)
 }
 
 // The lowest position whose height may not stand there.
@@ -48,12 +48,7 @@ fn find_outside<H: Heights>(heights: &H) -> Option<u32>
     requires { length (H.Heights.list heights.now) ≤ last_max + 1 }
     ensures { result ≡ first_outside (H.Heights.list heights.now) }
 {
-    for p in 0..heights.count() {
-        if !is_allowed(heights.height(p)) {
-            return Some(p as u32);
-        }
-    }
-    None
+    (0..heights.count() as u32).find(|&p| !is_allowed(heights.height(p as usize)))
 }
 
 // The tests of the heights: the range of each, and then the law between every two.
@@ -66,7 +61,7 @@ pub fn check_heights<H: Heights>(heights: &H, slope: u32, slack: u32) -> Result<
             position: Some(position),
         });
     }
-    if let Some((later, earlier)) = find_break(heights, slope, slack) {
+    if let Some((later, earlier)) = find_break(heights, Bound { slope, slack }) {
         return Err(Refusal::LawBroken { later, earlier });
     }
     Ok(())

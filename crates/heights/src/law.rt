@@ -1,7 +1,8 @@
 // The law between every two heights of a list, by one loop with running extremes.
-ghost use Rattle.std.specs.Prelude.{◌≡◌, ℕ, ◌+◌, ◌<◌, ◌≤◌, length, ℤ, pos, ◌+ℤ◌, ◌-ℤ◌, ◌≤ℤ◌, None, int_lt};
+ghost use Rattle.std.specs.Prelude.{◌≡◌, ℕ, ◌+◌, ◌*◌, ◌<◌, ◌≤◌, length, ℤ, pos, ◌+ℤ◌, ◌-ℤ◌, None};
 ghost use Rattle.std.specs.Int.{int_max, int_min};
-ghost use Rattle.terms.specs.Limits.{last_max, slope_max, slack_max, lowest_height, highest_height};
+ghost use Rattle.terms.specs.Limits.{last_max, slope_max, slack_max};
+ghost use Rattle.terms.specs.Meaning.{Height};
 ghost use Rattle.heights.specs.Heights.{marked, apart, partner, first_outside, first_break};
 ghost use Rattle.heights.specs.Extremes.{stray};
 ghost use Rattle.heights.specs.Theorems.{BreaksAreTold};
@@ -23,19 +24,57 @@ fn is_apart(reach: u32, x: i32, y: i32) -> bool
     !is_marked(x) && !is_marked(y) && x.abs_diff(y) > reach
 }
 
+// By how much two heights may differ: slope × their distance + slack.
+#[derive(Clone, Copy, Drop)]
+pub(crate) struct Bound {
+    pub(crate) slope: u32,
+    pub(crate) slack: u32,
+    ghost sloped: { slope ≤ slope_max },
+    ghost slacked: { slack ≤ slack_max },
+}
+
+impl Bound {
+    // Slope × distance.
+    fn rise(self, distance: usize) -> u32
+        requires { distance ≤ last_max }
+        ensures value { result ≡ self.slope * distance }
+        ensures most { result ≤ slope_max * last_max }
+    {
+        self.slope * distance as u32
+    }
+
+    // By how much two heights at that distance may differ.
+    fn reach(self, distance: usize) -> u32
+        requires { distance ≤ last_max }
+        ensures { result ≡ self.slope * distance + self.slack }
+    {
+        self.rise(distance) + self.slack
+    }
+}
+
 // The lowest position before `later` that breaks the law with it.
-fn find_partner<H: Heights>(heights: &H, slope: u32, slack: u32, later: usize) -> Option<u32>
-    requires { (length (H.Heights.list heights.now) ≤ last_max + 1) × ((later < length (H.Heights.list heights.now)) × ((slope ≤ slope_max) × (slack ≤ slack_max))) }
-    ensures { result ≡ partner slope slack (H.Heights.list heights.now) later }
+fn find_partner<H: Heights>(heights: &H, bound: Bound, later: usize) -> Option<u32>
+    requires { (length (H.Heights.list heights.now) ≤ last_max + 1) × (later < length (H.Heights.list heights.now)) }
+    ensures { result ≡ partner bound.slope bound.slack (H.Heights.list heights.now) later }
 {
     let height = heights.height(later);
-    for earlier in 0..later {
-        let reach = slope * (later - earlier) as u32 + slack;
-        if is_apart(reach, heights.height(earlier), height) {
-            return Some(earlier as u32);
-        }
-    }
-    None
+    (0..later as u32).find(
+        |&earlier|
+            requires { (earlier < later) × ((later < length (H.Heights.list heights.now)) × (later ≤ last_max)) }
+        {
+            let reach = bound.reach(later - earlier as usize);
+            is_apart(reach, heights.height(earlier as usize), height)
+        },
+    )
+}
+
+// A readable height and slope × its position.
+#[derive(Clone, Copy, Drop)]
+struct Placed {
+    height: i32,
+    rise: u32,
+    ghost ranged: { Height height },
+    ghost risen: { rise ≤ slope_max * last_max },
 }
 
 // Of the readable heights so far: the greatest height + slope × position and the least height − slope × position.
@@ -45,64 +84,33 @@ struct Extremes {
     least: i32,
 }
 
-// Whether a height and the reach together stay under a bound.
-fn stays_under(height: i32, reach: u32, bound: i32) -> bool
-    requires { (lowest_height ≤ℤ height) × ((height ≤ℤ highest_height) × (reach ≤ 160040000)) }
-    ensures { result ≡ int_lt (height +ℤ pos reach) bound }
-{
-    height + (reach as i32) < bound
-}
+impl Extremes {
+    // Whether a height is too far from some height before it.
+    fn is_stray(self, next: Placed, bound: Bound) -> bool
+        ensures { result ≡ stray self.greatest self.least next.height next.rise bound.slack }
+    {
+        let reach = (next.rise + bound.slack) as i32;
+        next.height + reach < self.greatest || self.least < next.height - reach
+    }
 
-// Whether a height stays over a bound, the reach taken off.
-fn stays_over(height: i32, reach: u32, bound: i32) -> bool
-    requires { (lowest_height ≤ℤ height) × ((height ≤ℤ highest_height) × (reach ≤ 160040000)) }
-    ensures { result ≡ int_lt bound (height -ℤ pos reach) }
-{
-    bound < height - (reach as i32)
-}
-
-// Whether a height is too far from some height before it; `rise` is slope × its position.
-fn is_stray(so_far: Extremes, height: i32, rise: u32, slack: u32) -> bool
-    requires { (lowest_height ≤ℤ height) × ((height ≤ℤ highest_height) × ((rise ≤ 160000000) × (slack ≤ slack_max))) }
-    ensures { result ≡ stray so_far.greatest so_far.least height rise slack }
-{
-    stays_under(height, rise + slack, so_far.greatest)
-        || stays_over(height, rise + slack, so_far.least)
-}
-
-// The greater of a bound and height + rise.
-fn raised(bound: i32, height: i32, rise: u32) -> i32
-    requires { (lowest_height ≤ℤ height) × ((height ≤ℤ highest_height) × (rise ≤ 160000000)) }
-    ensures { result ≡ int_max bound (height +ℤ pos rise) }
-{
-    bound.max(height + (rise as i32))
-}
-
-// The lesser of a bound and height − rise.
-fn lowered(bound: i32, height: i32, rise: u32) -> i32
-    requires { (lowest_height ≤ℤ height) × ((height ≤ℤ highest_height) × (rise ≤ 160000000)) }
-    ensures { result ≡ int_min bound (height -ℤ pos rise) }
-{
-    bound.min(height - (rise as i32))
-}
-
-// The extremes with one height more.
-fn with_height(so_far: Extremes, height: i32, rise: u32) -> Extremes
-    requires { (lowest_height ≤ℤ height) × ((height ≤ℤ highest_height) × (rise ≤ 160000000)) }
-    ensures greatest { result.greatest ≡ int_max so_far.greatest (height +ℤ pos rise) }
-    ensures least { result.least ≡ int_min so_far.least (height -ℤ pos rise) }
-{
-    Extremes {
-        greatest: raised(so_far.greatest, height, rise),
-        least: lowered(so_far.least, height, rise),
+    // The extremes with one height more.
+    fn with(self, next: Placed) -> Extremes
+        ensures greatest { result.greatest ≡ int_max self.greatest (next.height +ℤ pos next.rise) }
+        ensures least { result.least ≡ int_min self.least (next.height -ℤ pos next.rise) }
+    {
+        let rise = next.rise as i32;
+        Extremes {
+            greatest: self.greatest.max(next.height + rise),
+            least: self.least.min(next.height - rise),
+        }
     }
 }
 
 // The lowest position that breaks the law with an earlier one, and the lowest such earlier one.
-pub(crate) fn find_break<H: Heights>(heights: &H, slope: u32, slack: u32) -> Option<(u32, u32)>
-    requires sizes { (length (H.Heights.list heights.now) ≤ last_max + 1) × ((slope ≤ slope_max) × (slack ≤ slack_max)) }
+pub(crate) fn find_break<H: Heights>(heights: &H, bound: Bound) -> Option<(u32, u32)>
+    requires sizes { length (H.Heights.list heights.now) ≤ last_max + 1 }
     requires ranged { first_outside (H.Heights.list heights.now) ≡ None }
-    ensures is { result ≡ first_break slope slack (H.Heights.list heights.now) }
+    ensures is { result ≡ first_break bound.slope bound.slack (H.Heights.list heights.now) }
     ensures told { BreaksAreTold }
 {
     // Outside of all that heights within their range can come to.
@@ -113,13 +121,16 @@ pub(crate) fn find_break<H: Heights>(heights: &H, slope: u32, slack: u32) -> Opt
     for later in 0..heights.count() {
         let height = heights.height(later);
         if !is_marked(height) {
-            let rise = slope * later as u32;
-            if is_stray(so_far, height, rise, slack) {
+            let next = Placed {
+                height,
+                rise: bound.rise(later),
+            };
+            if so_far.is_stray(next, bound) {
                 // A stray height always has a partner.
-                let earlier = find_partner(heights, slope, slack, later)?;
+                let earlier = find_partner(heights, bound, later)?;
                 return Some((later as u32, earlier));
             }
-            so_far = with_height(so_far, height, rise);
+            so_far = so_far.with(next);
         }
     }
     None

@@ -14,7 +14,7 @@ pub const SLACK_MAX: u32 = 40_000;
 // The highest height; the lowest is its negative.
 pub const HEIGHT_MAX: i32 = 20_000;
 
-// Stands in a list of heights for a position without a reading.
+// Stands in a list of heights for a position without a reading; no Option, since a record's 16-bit fields and a caller's plain list have it as a number.
 pub const UNREAD: i32 = -32_768;
 
 // The highest step to which heights are rounded.
