@@ -1,4 +1,4 @@
-// The tests of a sheet, each number in its order.
+// The tests of a sheet, each number in its order. They take plain numbers: before its test there is no fact of a number that a type could hold.
 ghost use Rattle.std.specs.Prelude.{◌≡◌, ℕ, ◌+◌, ◌≤◌, length};
 ghost use Rattle.terms.specs.Limits.{last_max, slope_max, slack_max};
 ghost use Rattle.heights.specs.Heights.{allowed, first_outside};
@@ -9,7 +9,7 @@ use crate::list::Heights;
 use terms::limits::{LAST_MAX, SLACK_MAX, SLOPE_MAX, is_height};
 use terms::refusal::Refusal;
 
-// The tests of a last position, a slope and a slack; they come as plain numbers, since before the tests there is no fact of them to hold.
+// The tests of a last position, a slope and a slack.
 pub fn check_line(last: usize, slope: u32, slack: u32) -> Result<(), Refusal>
     ensures { result ≡ line_verdict last slope slack }
 {

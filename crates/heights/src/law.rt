@@ -1,10 +1,9 @@
 // The law between every two heights of a list, by one loop with running extremes.
-ghost use Rattle.std.specs.Prelude.{◌≡◌, ℕ, ◌+◌, ◌*◌, ◌<◌, ◌≤◌, length, ℤ, pos, ◌+ℤ◌, ◌-ℤ◌, None};
+ghost use Rattle.std.specs.Prelude.{◌≡◌, ℕ, ◌+◌, ◌*◌, ◌<◌, ◌≤◌, ◌||◌, length, ℤ, pos, ◌+ℤ◌, ◌-ℤ◌, None, int_lt};
 ghost use Rattle.std.specs.Int.{int_max, int_min};
 ghost use Rattle.terms.specs.Limits.{last_max, slope_max, slack_max};
 ghost use Rattle.terms.specs.Meaning.{Height};
 ghost use Rattle.heights.specs.Heights.{marked, apart, partner, first_outside, first_break};
-ghost use Rattle.heights.specs.Extremes.{stray};
 ghost use Rattle.heights.specs.Theorems.{BreaksAreTold};
 
 use crate::list::Heights;
@@ -68,13 +67,43 @@ fn find_partner<H: Heights>(heights: &H, bound: Bound, later: usize) -> Option<u
     )
 }
 
-// A readable height and slope × its position.
+// A readable height, give or take a reach.
 #[derive(Clone, Copy, Drop)]
-struct Placed {
+struct Span {
     height: i32,
-    rise: u32,
+    reach: u32,
     ghost ranged: { Height height },
-    ghost risen: { rise ≤ slope_max * last_max },
+    ghost short: { reach ≤ slope_max * last_max + slack_max },
+}
+
+impl Span {
+    // Whether all of it stays under a limit.
+    fn stays_under(self, limit: i32) -> bool
+        ensures { result ≡ int_lt (self.height +ℤ pos self.reach) limit }
+    {
+        self.height + (self.reach as i32) < limit
+    }
+
+    // Whether all of it stays over a limit.
+    fn stays_over(self, limit: i32) -> bool
+        ensures { result ≡ int_lt limit (self.height -ℤ pos self.reach) }
+    {
+        limit < self.height - (self.reach as i32)
+    }
+
+    // The greater of its upper end and another height.
+    fn greater(self, other: i32) -> i32
+        ensures { result ≡ int_max other (self.height +ℤ pos self.reach) }
+    {
+        other.max(self.height + (self.reach as i32))
+    }
+
+    // The lesser of its lower end and another height.
+    fn lesser(self, other: i32) -> i32
+        ensures { result ≡ int_min other (self.height -ℤ pos self.reach) }
+    {
+        other.min(self.height - (self.reach as i32))
+    }
 }
 
 // Of the readable heights so far: the greatest height + slope × position and the least height − slope × position.
@@ -85,23 +114,21 @@ struct Extremes {
 }
 
 impl Extremes {
-    // Whether a height is too far from some height before it.
-    fn is_stray(self, next: Placed, bound: Bound) -> bool
-        ensures { result ≡ stray self.greatest self.least next.height next.rise bound.slack }
+    // Whether a height is too far from some height before it; its span reaches slope × position + slack.
+    fn is_stray(self, span: Span) -> bool
+        ensures { result ≡ (int_lt (span.height +ℤ pos span.reach) self.greatest || int_lt self.least (span.height -ℤ pos span.reach)) }
     {
-        let reach = (next.rise + bound.slack) as i32;
-        next.height + reach < self.greatest || self.least < next.height - reach
+        span.stays_under(self.greatest) || span.stays_over(self.least)
     }
 
-    // The extremes with one height more.
-    fn with(self, next: Placed) -> Extremes
-        ensures greatest { result.greatest ≡ int_max self.greatest (next.height +ℤ pos next.rise) }
-        ensures least { result.least ≡ int_min self.least (next.height -ℤ pos next.rise) }
+    // The extremes with one height more; its span reaches slope × position.
+    fn with(self, span: Span) -> Extremes
+        ensures greatest { result.greatest ≡ int_max self.greatest (span.height +ℤ pos span.reach) }
+        ensures least { result.least ≡ int_min self.least (span.height -ℤ pos span.reach) }
     {
-        let rise = next.rise as i32;
         Extremes {
-            greatest: self.greatest.max(next.height + rise),
-            least: self.least.min(next.height - rise),
+            greatest: span.greater(self.greatest),
+            least: span.lesser(self.least),
         }
     }
 }
@@ -121,16 +148,17 @@ pub(crate) fn find_break<H: Heights>(heights: &H, bound: Bound) -> Option<(u32, 
     for later in 0..heights.count() {
         let height = heights.height(later);
         if !is_marked(height) {
-            let next = Placed {
-                height,
-                rise: bound.rise(later),
-            };
-            if so_far.is_stray(next, bound) {
+            let rise = bound.rise(later);
+            let reach = rise + bound.slack;
+            if so_far.is_stray(Span { height, reach }) {
                 // A stray height always has a partner.
                 let earlier = find_partner(heights, bound, later)?;
                 return Some((later as u32, earlier));
             }
-            so_far = so_far.with(next);
+            so_far = so_far.with(Span {
+                height,
+                reach: rise,
+            });
         }
     }
     None

@@ -15,12 +15,12 @@ within xs p h z o l e f m =
     let y : z ≡ height_at xs p = e ∙ f in
     rw y (ranged_at xs o p l (ap marked (sym y) ∙ sym m))
 
-pub invariant_of-next : goal.invariant_of-next
-invariant_of-next g c =
+pub invariant_of-is_stray : goal.invariant_of-is_stray
+invariant_of-is_stray g c =
     let xs = g.H.Heights.list c.args.heights.now in
     record {
       ranged = within xs c.loop-later.later c.height-height.result _ c.requires.ranged (omega arith) (to_z-of_z w32 _ (search rules)) c.height-height.ensures c.if-not-is_marked.ensures;
-      risen = c.rise.ensures.most;
+      short = omega (arith, c.rise-rise.ensures.most);
     }
 
 pub returns-in_err-earlier : goal.returns-in_err-earlier
@@ -33,7 +33,7 @@ returns-in_err-earlier g c =
     let low = c.loop-later.so_far.least in
     let y : to_z w32 (of_z w32 c.height-height.result) ≡ height_at xs p = to_z-of_z w32 _ (search rules) ∙ c.height-height.ensures in
     let m : marked (height_at xs p) ≡ false = ap marked (sym y) ∙ sym c.if-not-is_marked.ensures in
-    let r : c.rise.result ≡ slope * p = c.rise.ensures.value in
+    let r : c.rise-rise.result ≡ slope * p = c.rise-rise.ensures.value in
     let s : stray top low (height_at xs p) (slope * p) slack ≡ true = rw (sym y, sym r) (sym c.if-is_stray.ensures) in
     let f = far slope slack xs p top low c.loop-later.invariant.1 m (ranged_at xs c.requires.ranged p (omega arith) m) s in
     absurd (both_ways (is_some (partner slope slack xs p)) (ap is_some (sym c.find_partner.ensures ∙ c.in_err-earlier.was)) f)
@@ -58,7 +58,7 @@ loop-later-preserved g c =
     elim c.if-not-is_marked.branch [
       | then-not-is_marked+else-is_stray w ↦
           let m : marked (height_at xs p) ≡ false = ap marked (sym y) ∙ sym w.if-not-is_marked.ensures in
-          let r : w.rise.result ≡ slope * p = w.rise.ensures.value in
+          let r : w.rise-rise.result ≡ slope * p = w.rise-rise.ensures.value in
           let s : stray top low (height_at xs p) (slope * p) slack ≡ false = rw (sym y, sym r) (sym w.if-is_stray.ensures) in (
             below_more _ _ c.loop-later.invariant.0 (alone slope slack xs p (near slope slack xs p top low c.loop-later.invariant.1 s)),
             bounds_at slope xs (p + 1) _ _ _ _
