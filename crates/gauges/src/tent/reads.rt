@@ -30,7 +30,7 @@ impl Tent {
 impl Gauge for Tent {
     ghost meaning = { λ t. tent_meaning t.last t.slope t.crown t.height t.name };
 
-    ghost lawful = { λ t. tent_lawful t.last t.slope t.crown t.height t.name t.lasts t.slopes t.high };
+    ghost lawful = { λ t. tent_lawful t.last t.slope t.crown t.height t.name t.lasts t.slopes t.ranged.high };
 
     fn last(&self) -> u32 {
         self.last
