@@ -4,8 +4,9 @@ ghost use Rattle.layers.specs.Examples.{LayerExamples};
 ghost use Rattle.layers.specs.Layers.{sum_height, sum_meaning};
 ghost use Rattle.layers.specs.Laws.{sum_lawful};
 
+use crate::pair::{common_last, read_both};
 use gauges::gauge::Gauge;
-use terms::fault::{Fault, LAYER};
+use terms::fault::Fault;
 use terms::limits::{HEIGHT_MAX, SLACK_MAX, SLOPE_MAX};
 
 // The sum of the heights of two gauges.
@@ -38,7 +39,7 @@ impl<A: Gauge, B: Gauge> Gauge for Sum<A, B> {
     ghost lawful = { λ s. sum_lawful (A.Gauge.meaning s.first) (B.Gauge.meaning s.second) (A.Gauge.lawful s.first) (B.Gauge.lawful s.second) };
 
     fn last(&self) -> u32 {
-        self.first.last().min(self.second.last())
+        common_last(&self.first, &self.second)
     }
 
     fn slope(&self) -> u32 {
@@ -50,11 +51,7 @@ impl<A: Gauge, B: Gauge> Gauge for Sum<A, B> {
     }
 
     fn read(&self, position: u32) -> Result<i32, Fault> {
-        if position > self.last() {
-            return Err(Fault::beyond(position, LAYER));
-        }
-        let first = self.first.read_below(position)?;
-        let second = self.second.read_below(position)?;
+        let (first, second) = read_both(&self.first, &self.second, position)?;
         Ok(kept_sum(first, second))
     }
 }
