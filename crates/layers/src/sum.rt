@@ -17,6 +17,7 @@ pub struct Sum<A, B> {
 }
 
 impl<A, B> Sum<A, B> {
+    #[tactic(auto, using(crate::proofs::Shown::layer_examples))]
     pub fn of(first: A, second: B) -> Sum<A, B>
         ensures made { (result.first ≡ first) × (result.second ≡ second) }
         ensures examples { LayerExamples }
@@ -26,6 +27,7 @@ impl<A, B> Sum<A, B> {
 }
 
 // The sum of two heights, kept within their range.
+#[tactic(auto, unfolding(crate::specs::Layers::sum_height))]
 fn kept_sum(first: i32, second: i32) -> i32
     requires { (Height first) × (Height second) }
     ensures { result ≡ sum_height first second }

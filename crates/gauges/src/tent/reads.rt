@@ -11,6 +11,7 @@ use terms::limits::HEIGHT_MAX;
 
 impl Tent {
     // How far the height falls from the crown to a position.
+    #[tactic(auto, unfolding(terms::specs::Meaning::distance))]
     fn fall(&self, position: u32) -> u32
         requires { position ≤ self.now.last }
         ensures value { result ≡ self.now.slope * distance position self.now.crown }
