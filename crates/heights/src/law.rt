@@ -1,19 +1,26 @@
-// The law between every two heights of a list, by one loop with running extremes.
+// The range of each height of a list, and the law between every two, by one loop with running extremes.
 ghost use Rattle.std.specs.Prelude.{◌≡◌, ℕ, ◌+◌, ◌*◌, ◌<◌, ◌≤◌, ◌||◌, length, ℤ, pos, ◌+ℤ◌, ◌-ℤ◌, None, int_lt};
 ghost use Rattle.std.specs.Int.{int_max, int_min};
 ghost use Rattle.terms.specs.Limits.{last_max, slope_max, slack_max};
 ghost use Rattle.terms.specs.Meaning.{Height};
-ghost use Rattle.heights.specs.Heights.{marked, apart, partner, first_outside, first_break};
+ghost use Rattle.heights.specs.Heights.{marked, allowed, apart, partner, first_outside, first_break};
 ghost use Rattle.heights.specs.Theorems.{BreaksAreTold};
 
 use crate::list::Heights;
-use terms::limits::UNREAD;
+use terms::limits::{UNREAD, is_height};
 
 // Whether a height marks a position without a reading.
 pub(crate) fn is_marked(height: i32) -> bool
     ensures { result ≡ marked height }
 {
     height == UNREAD
+}
+
+// Whether a height may stand in a list: it is in range, or marks a position without a reading.
+fn is_allowed(height: i32) -> bool
+    ensures { result ≡ allowed height }
+{
+    is_marked(height) || is_height(height)
 }
 
 // Whether two readable heights differ by more than a reach.
@@ -49,22 +56,6 @@ impl Bound {
     {
         self.rise(distance) + self.slack
     }
-}
-
-// The lowest position before `later` that breaks the law with it.
-fn find_partner<H: Heights>(heights: &H, bound: Bound, later: usize) -> Option<u32>
-    requires { (length (H.Heights.list heights.now) ≤ last_max + 1) × (later < length (H.Heights.list heights.now)) }
-    ensures { result ≡ partner bound.slope bound.slack (H.Heights.list heights.now) later }
-{
-    let height = heights.height(later);
-    (0..later as u32).find(
-        |&earlier|
-            requires { (earlier < later) × ((later < length (H.Heights.list heights.now)) × (later ≤ last_max)) }
-        {
-            let reach = bound.reach(later - earlier as usize);
-            is_apart(reach, heights.height(earlier as usize), height)
-        },
-    )
 }
 
 // A readable height, give or take a reach.
@@ -133,33 +124,70 @@ impl Extremes {
     }
 }
 
-// The lowest position that breaks the law with an earlier one, and the lowest such earlier one.
-pub(crate) fn find_break<H: Heights>(heights: &H, bound: Bound) -> Option<(u32, u32)>
-    requires sizes { length (H.Heights.list heights.now) ≤ last_max + 1 }
-    requires ranged { first_outside (H.Heights.list heights.now) ≡ None }
-    ensures is { result ≡ first_break bound.slope bound.slack (H.Heights.list heights.now) }
-    ensures told { BreaksAreTold }
-{
-    // Outside of all that heights within their range can come to.
-    let mut so_far = Extremes {
-        greatest: -200_000_000,
-        least: 200_000_000,
-    };
-    for later in 0..heights.count() {
-        let height = heights.height(later);
-        if !is_marked(height) {
-            let rise = bound.rise(later);
-            let reach = rise + bound.slack;
-            if so_far.is_stray(Span { height, reach }) {
-                // A stray height always has a partner.
-                let earlier = find_partner(heights, bound, later)?;
-                return Some((later as u32, earlier));
-            }
-            so_far = so_far.with(Span {
-                height,
-                reach: rise,
-            });
-        }
+// A list of no more heights than a sheet may have, and the bound that every two of them are to keep.
+#[derive(Drop)]
+pub(crate) struct Sheet<'a, H: Heights> {
+    pub(crate) heights: &'a H,
+    pub(crate) bound: Bound,
+    ghost short: { length (H.Heights.list heights.now) ≤ last_max + 1 },
+}
+
+impl<'a, H: Heights> Sheet<'a, H> {
+    // The lowest position whose height may not stand there.
+    pub(crate) fn find_outside(&self) -> Option<u32>
+        ensures { result ≡ first_outside (H.Heights.list self.now.heights.now) }
+    {
+        let heights = self.heights;
+        (0..heights.count() as u32).find(|&p| !is_allowed(heights.height(p as usize)))
     }
-    None
+
+    // The lowest position before `later` that breaks the law with it.
+    fn find_partner(&self, later: usize) -> Option<u32>
+        requires { later < length (H.Heights.list self.now.heights.now) }
+        ensures { result ≡ partner self.now.bound.slope self.now.bound.slack (H.Heights.list self.now.heights.now) later }
+    {
+        let heights = self.heights;
+        let bound = self.bound;
+        let height = heights.height(later);
+        (0..later as u32).find(
+            |&earlier|
+                requires { (earlier < later) × ((later < length (H.Heights.list heights.now)) × (later ≤ last_max)) }
+            {
+                let reach = bound.reach(later - earlier as usize);
+                is_apart(reach, heights.height(earlier as usize), height)
+            },
+        )
+    }
+
+    // The lowest position that breaks the law with an earlier one, and the lowest such earlier one.
+    pub(crate) fn find_break(&self) -> Option<(u32, u32)>
+        requires { first_outside (H.Heights.list self.now.heights.now) ≡ None }
+        ensures is { result ≡ first_break self.now.bound.slope self.now.bound.slack (H.Heights.list self.now.heights.now) }
+        ensures told { BreaksAreTold }
+    {
+        let heights = self.heights;
+        let bound = self.bound;
+        // Outside of all that heights within their range can come to.
+        let mut so_far = Extremes {
+            greatest: -200_000_000,
+            least: 200_000_000,
+        };
+        for later in 0..heights.count() {
+            let height = heights.height(later);
+            if !is_marked(height) {
+                let rise = bound.rise(later);
+                let reach = rise + bound.slack;
+                if so_far.is_stray(Span { height, reach }) {
+                    // A stray height always has a partner.
+                    let earlier = self.find_partner(later)?;
+                    return Some((later as u32, earlier));
+                }
+                so_far = so_far.with(Span {
+                    height,
+                    reach: rise,
+                });
+            }
+        }
+        None
+    }
 }
