@@ -25,10 +25,10 @@ record FromHeight (f : ℤ → ℤ) (r : Reading) (h : ℤ) : Type 0 where
 
 over_ok : (f : ℤ → ℤ) (r : Reading) (h : ℤ) → over f r ≡ Ok h → FromHeight f r h
 over_ok f (Ok x) h e = record { was = x; read = refl; value = cc }
-over_ok f (Err x) h e = let z : ◌≡◌ {A = ℕ} 0 1 = cc in absurd (omega arith)
+over_ok f (Err x) h e = cc
 
 over_err : (f : ℤ → ℤ) (r : Reading) (e : Fault) → over f r ≡ Err e → (d : Fault) × (r ≡ Err d) × (e ≡ raised d)
-over_err f (Ok x) e i = let z : ◌≡◌ {A = ℕ} 0 1 = cc in absurd (omega arith)
+over_err f (Ok x) e i = cc
 over_err f (Err d) e i = (d, refl, cc)
 
 pub over_lawful : (f : ℤ → ℤ) (u : ℕ) (m : Meaning) → Lawful m → u ≤ slack_max → KeepsNear f m.slack u → Lawful (over_meaning f u m)
@@ -58,12 +58,12 @@ record Both (f : ℤ → ℤ → ℤ) (r s : Reading) (h : ℤ) : Type 0 where
 
 joined_ok : (f : ℤ → ℤ → ℤ) (r s : Reading) (h : ℤ) → joined f r s ≡ Ok h → Both f r s h
 joined_ok f (Ok x) (Ok y) h e = record { a = x; b = y; left = refl; right = refl; value = cc }
-joined_ok f (Ok x) (Err y) h e = let z : ◌≡◌ {A = ℕ} 0 1 = cc in absurd (omega arith)
-joined_ok f (Err x) s h e = let z : ◌≡◌ {A = ℕ} 0 1 = cc in absurd (omega arith)
+joined_ok f (Ok x) (Err y) h e = cc
+joined_ok f (Err x) s h e = cc
 
 -- what raising keeps of each gauge's fault holds of the joined fault
 joined_err : (P : Fault → Type 0) → ((d : Fault) → P d → P (raised d)) → (f : ℤ → ℤ → ℤ) (r s : Reading) (e : Fault) → joined f r s ≡ Err e → ((d : Fault) → r ≡ Err d → P d) → ((d : Fault) → s ≡ Err d → P d) → P e
-joined_err P up f (Ok x) (Ok y) e q u v = let z : ◌≡◌ {A = ℕ} 0 1 = cc in absurd (omega arith)
+joined_err P up f (Ok x) (Ok y) e q u v = cc
 joined_err P up f (Ok x) (Err y) e q u v = let k : e ≡ raised y = cc in rw k (up y (v y refl))
 joined_err P up f (Err x) s e q u v = let k : e ≡ raised x = cc in rw k (up x (u x refl))
 

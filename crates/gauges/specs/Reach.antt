@@ -1,6 +1,6 @@
 -- Facts of a reading that goes up to a last position.
 use Rattle.std.specs.Prelude.{◌≡◌, ℕ, ◌<◌, ◌≤◌, Bool, true, false, cond, ◌⊎◌, ℤ, Ok, Err, nat_lt, refl}
-use Rattle.std.proofs.Common.{sym, ap, inl, inr, ⊎_elim, arith, ltb-false, lt-ltb, le-ltb}
+use Rattle.std.proofs.Common.{sym, ap, inl, inr, ⊎_elim, ltb-false, lt-ltb, le-ltb}
 use Rattle.terms.specs.declared.fault.Fault.{Fault}
 use Rattle.terms.specs.Faults.{beyond}
 use Rattle.terms.specs.Meaning.{Reading}
@@ -24,7 +24,7 @@ up_to_cases last name p r s e = ⊎_elim inl (λ c. inr (ltb-false last p c.0, c
 pub up_to_ok : (last name p : ℕ) (r : Reading) (h : ℤ) → up_to last name p r ≡ Ok h → r ≡ Ok h
 up_to_ok last name p r h e =
     ⊎_elim
-    (λ c. let z : ◌≡◌ {A = ℕ} 0 1 = cc in absurd (omega arith))
+    (λ c. cc)
     (λ c. c.1)
     (up_to_cases last name p r (Ok h) e)
 

@@ -18,7 +18,7 @@ unfolding distance
 back p q = omega arith
 
 no_fault : (h : ℤ) (f : Fault) → Ok h ≢ Err f
-no_fault h f e = let z : ◌≡◌ {A = ℕ} 0 1 = cc in omega arith
+no_fault h f e = cc
 
 module _ (last slope crown : ℕ) (height : ℤ) (name : ℕ) where
   tent_is : (p : ℕ) (h : ℤ) → (tent_meaning last slope crown height name).reading p ≡ Ok h → h ≡ tent_height slope crown height p

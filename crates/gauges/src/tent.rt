@@ -1,5 +1,6 @@
-ghost use Rattle.std.specs.Prelude.{ℕ, ◌≤◌, ◌≤ℤ◌};
-ghost use Rattle.terms.specs.Limits.{last_max, slope_max, lowest_height, highest_height};
+ghost use Rattle.std.specs.Prelude.{ℕ, ◌≤◌};
+ghost use Rattle.terms.specs.Limits.{last_max, slope_max};
+ghost use Rattle.terms.specs.Meaning.{Height};
 
 pub mod makes;
 pub mod reads;
@@ -15,7 +16,6 @@ pub struct Tent {
     ghost lasts: { (1 ≤ last) × (last ≤ last_max) },
     ghost slopes: { (1 ≤ slope) × (slope ≤ slope_max) },
     ghost crowned: { crown ≤ last },
-    ghost low: { lowest_height ≤ℤ height },
-    ghost high: { height ≤ℤ highest_height },
+    ghost ranged: { Height height },
     ghost named: { 1 ≤ name },
 }

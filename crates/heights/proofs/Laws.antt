@@ -1,7 +1,7 @@
 -- A list of heights that passes the tests is a lawful gauge.
-use Rattle.std.proofs.Common.{◌≡◌, ℕ, zero, suc, ◌+◌, ◌-◌, ◌*◌, ◌<◌, ◌≤◌, Bool, true, false, cond, not, ◌&&◌, ltb, List, length, ℤ, ◌-ℤ◌, nat_abs, is_some, is_ok, Some, None, Ok, Err, Option, sym, refl, ap, ◌∙◌, ⊎_elim, arith}
+use Rattle.std.proofs.Common.{◌≡◌, ℕ, ◌+◌, ◌-◌, ◌*◌, ◌<◌, ◌≤◌, Bool, true, false, cond, not, ◌&&◌, ltb, List, length, ℤ, ◌-ℤ◌, nat_abs, is_some, is_ok, Some, None, Ok, Err, Option, sym, refl, ap, ◌∙◌, ⊎_elim, arith}
 use Rattle.std.proofs.lemmas.Int.{ints}
-use Rattle.std.proofs.lemmas.Bool.{cases_Bool, cases_order, lt-ltb, le-ltb, ltb-false, and_from, and_cases, not_from_false, both_ways, cond-true, cond-false}
+use Rattle.std.proofs.lemmas.Bool.{cases_order, lt-ltb, le-ltb, ltb-false, and_from, and_cases, not_from_false, both_ways, cond-true, cond-false}
 use Rattle.terms.specs.declared.fault.Fault.{Fault}
 use Rattle.terms.specs.declared.fault.Cause.TheVariants.{Unread}
 use Rattle.heights.specs.Heights.{height_at, marked, lowest, breaks, partner, with_partner, paired, first_break}
@@ -9,7 +9,7 @@ use Rattle.heights.specs.Verdicts.{sheet_verdict, name_verdict, table_verdict}
 use Rattle.terms.specs.Faults.{beyond, unread}
 use Rattle.terms.specs.Meaning.{Lawful, Reading, Keeps, distance}
 use Rattle.heights.specs.Lists.{entry_reading, list_reading, list_meaning}
-use Rattle.heights.proofs.Lowest.{none_lowest}
+use Rattle.heights.proofs.Lowest.{is_lowest, none_lowest}
 use Rattle.heights.proofs.Pairs.{ranged_at}
 use Rattle.heights.proofs.Verdicts.{sheet_ok, both_ok}
 
@@ -20,15 +20,7 @@ some_or_none (Some x) h = absurd (both_ways true h refl)
 -- a position told is one with a partner, so that a break is told
 paired_none : (later : ℕ) (o : Option ℕ) → paired later o ≡ None → o ≡ None
 paired_none later None e = refl
-paired_none later (Some x) e = let z : ◌≡◌ {A = ℕ} 0 1 = cc in absurd (omega arith)
-
-lowest_passes : (test : ℕ → Bool) (p n q : ℕ) → lowest test p n ≡ Some q → test q ≡ true
-lowest_passes test p zero q e = let z : ◌≡◌ {A = ℕ} 0 1 = cc in absurd (omega arith)
-lowest_passes test p (suc n) q e =
-    ⊎_elim
-    (λ t. let s : ◌≡◌ {A = Option ℕ} (Some p) (Some q) = sym (cond-true (test p) _ _ t) ∙ e in let i : p ≡ q = cc in rw i at t)
-    (λ t. lowest_passes test (p + 1) n q (sym (cond-false (test p) _ _ t) ∙ e))
-    (cases_Bool (test p))
+paired_none later (Some x) e = cc
 
 with_none : (f : ℕ → Option ℕ) (o : Option ℕ) → ((q : ℕ) → o ≡ Some q → is_some (f q) ≡ true) → with_partner f o ≡ None → o ≡ None
 with_none f None h e = refl
@@ -38,7 +30,7 @@ module _ (slope slack : ℕ) (xs : List ℤ) (none : first_break slope slack xs 
   pub no_partner : (j : ℕ) → j < length xs → partner slope slack xs j ≡ None
   no_partner j l =
       let test : ℕ → Bool = λ k. is_some (partner slope slack xs k) in
-      let o = with_none (partner slope slack xs) (lowest test 0 (length xs)) (λ q e. lowest_passes test 0 (length xs) q e) none in
+      let o = with_none (partner slope slack xs) (lowest test 0 (length xs)) (λ q e. (is_lowest test 0 (length xs) q e).passes) none in
       some_or_none (partner slope slack xs j) (none_lowest test 0 (length xs) o j (omega arith) (omega arith))
 
   -- every two readable heights keep the law
@@ -64,17 +56,17 @@ module _ (slope slack : ℕ) (xs : List ℤ) (none : first_break slope slack xs 
       (cases_order p q)
 
 unless_ok : (b : Bool) (f : Fault) (r : Reading) (h : ℤ) → cond b (Err f) r ≡ Ok h → (b ≡ false) × (r ≡ Ok h)
-unless_ok true f r h e = let z : ◌≡◌ {A = ℕ} 0 1 = cc in absurd (omega arith)
+unless_ok true f r h e = cc
 unless_ok false f r h e = (refl, e)
 
 unread_cause : (b : Bool) (p name : ℕ) (h : ℤ) (f : Fault) → cond b (Err (unread p name)) (Ok h) ≡ Err f → f.cause ≡ Unread
 unread_cause true p name h f e = let k : f ≡ unread p name = cc in ap (λ (x : Fault). x.cause) k
-unread_cause false p name h f e = let z : ◌≡◌ {A = ℕ} 0 1 = cc in absurd (omega arith)
+unread_cause false p name h f e = cc
 
 fault_position : (past mark : Bool) (p name : ℕ) (h : ℤ) (f : Fault) → cond past (Err (beyond p name)) (cond mark (Err (unread p name)) (Ok h)) ≡ Err f → f.position ≡ p
 fault_position true mark p name h f e = let k : f ≡ beyond p name = cc in ap (λ (x : Fault). x.position) k
 fault_position false true p name h f e = let k : f ≡ unread p name = cc in ap (λ (x : Fault). x.position) k
-fault_position false false p name h f e = let z : ◌≡◌ {A = ℕ} 0 1 = cc in absurd (omega arith)
+fault_position false false p name h f e = cc
 
 list_ok : (xs : List ℤ) (name p : ℕ) (h : ℤ) → list_reading xs name p ≡ Ok h → (p ≤ length xs - 1) × (marked (height_at xs p) ≡ false) × (height_at xs p ≡ h)
 list_ok xs name p h e =

@@ -1,12 +1,11 @@
-// The tests of a sheet, each number in its order.
+// The tests of a sheet, each number in its order. They take plain numbers: before its test there is no fact of a number that a type could hold.
 ghost use Rattle.std.specs.Prelude.{◌≡◌, ℕ, ◌+◌, ◌≤◌, length};
 ghost use Rattle.terms.specs.Limits.{last_max, slope_max, slack_max};
-ghost use Rattle.heights.specs.Heights.{allowed, first_outside};
 ghost use Rattle.heights.specs.Verdicts.{line_verdict, heights_verdict, sheet_verdict, name_verdict};
 
-use crate::law::find_break;
+use crate::law::{Bound, Sheet};
 use crate::list::Heights;
-use terms::limits::{HEIGHT_MAX, LAST_MAX, SLACK_MAX, SLOPE_MAX, UNREAD};
+use terms::limits::{LAST_MAX, SLACK_MAX, SLOPE_MAX};
 use terms::refusal::Refusal;
 
 // The tests of a last position, a slope and a slack.
@@ -36,37 +35,21 @@ pub fn check_name(name: u8) -> Result<(), Refusal>
     }
 }
 
-// Whether a height may stand in a list: it is in range, or marks a position without a reading.
-fn is_allowed(height: i32) -> bool
-    ensures { result ≡ allowed height }
-{
-    height == UNREAD || -HEIGHT_MAX <= height && height <= HEIGHT_MAX
-}
-
-// The lowest position whose height may not stand there.
-fn find_outside<H: Heights>(heights: &H) -> Option<u32>
-    requires { length (H.Heights.list heights.now) ≤ last_max + 1 }
-    ensures { result ≡ first_outside (H.Heights.list heights.now) }
-{
-    for p in 0..heights.count() {
-        if !is_allowed(heights.height(p)) {
-            return Some(p as u32);
-        }
-    }
-    None
-}
-
 // The tests of the heights: the range of each, and then the law between every two.
 pub fn check_heights<H: Heights>(heights: &H, slope: u32, slack: u32) -> Result<(), Refusal>
     requires { (length (H.Heights.list heights.now) ≤ last_max + 1) × ((slope ≤ slope_max) × (slack ≤ slack_max)) }
     ensures { result ≡ heights_verdict slope slack (H.Heights.list heights.now) }
 {
-    if let Some(position) = find_outside(heights) {
+    let sheet = Sheet {
+        heights,
+        bound: Bound { slope, slack },
+    };
+    if let Some(position) = sheet.find_outside() {
         return Err(Refusal::HeightOutOfRange {
             position: Some(position),
         });
     }
-    if let Some((later, earlier)) = find_break(heights, slope, slack) {
+    if let Some((later, earlier)) = sheet.find_break() {
         return Err(Refusal::LawBroken { later, earlier });
     }
     Ok(())

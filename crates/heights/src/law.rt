@@ -1,19 +1,26 @@
-// The law between every two heights of a list, by one loop with running extremes.
-ghost use Rattle.std.specs.Prelude.{◌≡◌, ℕ, ◌+◌, ◌<◌, ◌≤◌, length, ℤ, pos, ◌+ℤ◌, ◌-ℤ◌, ◌≤ℤ◌, None, int_lt};
+// The range of each height of a list, and the law between every two, by one loop with running extremes.
+ghost use Rattle.std.specs.Prelude.{◌≡◌, ℕ, ◌+◌, ◌*◌, ◌<◌, ◌≤◌, ◌||◌, length, ℤ, pos, ◌+ℤ◌, ◌-ℤ◌, None, int_lt};
 ghost use Rattle.std.specs.Int.{int_max, int_min};
-ghost use Rattle.terms.specs.Limits.{last_max, slope_max, slack_max, lowest_height, highest_height};
-ghost use Rattle.heights.specs.Heights.{marked, apart, partner, first_outside, first_break};
-ghost use Rattle.heights.specs.Extremes.{stray};
+ghost use Rattle.terms.specs.Limits.{last_max, slope_max, slack_max};
+ghost use Rattle.terms.specs.Meaning.{Height};
+ghost use Rattle.heights.specs.Heights.{marked, allowed, apart, partner, first_outside, first_break};
 ghost use Rattle.heights.specs.Theorems.{BreaksAreTold};
 
 use crate::list::Heights;
-use terms::limits::UNREAD;
+use terms::limits::{UNREAD, is_height};
 
 // Whether a height marks a position without a reading.
 pub(crate) fn is_marked(height: i32) -> bool
     ensures { result ≡ marked height }
 {
     height == UNREAD
+}
+
+// Whether a height may stand in a list: it is in range, or marks a position without a reading.
+fn is_allowed(height: i32) -> bool
+    ensures { result ≡ allowed height }
+{
+    is_marked(height) || is_height(height)
 }
 
 // Whether two readable heights differ by more than a reach.
@@ -23,19 +30,71 @@ fn is_apart(reach: u32, x: i32, y: i32) -> bool
     !is_marked(x) && !is_marked(y) && x.abs_diff(y) > reach
 }
 
-// The lowest position before `later` that breaks the law with it.
-fn find_partner<H: Heights>(heights: &H, slope: u32, slack: u32, later: usize) -> Option<u32>
-    requires { (length (H.Heights.list heights.now) ≤ last_max + 1) × ((later < length (H.Heights.list heights.now)) × ((slope ≤ slope_max) × (slack ≤ slack_max))) }
-    ensures { result ≡ partner slope slack (H.Heights.list heights.now) later }
-{
-    let height = heights.height(later);
-    for earlier in 0..later {
-        let reach = slope * (later - earlier) as u32 + slack;
-        if is_apart(reach, heights.height(earlier), height) {
-            return Some(earlier as u32);
-        }
+// By how much two heights may differ: slope × their distance + slack.
+#[derive(Clone, Copy, Drop)]
+pub(crate) struct Bound {
+    pub(crate) slope: u32,
+    pub(crate) slack: u32,
+    ghost sloped: { slope ≤ slope_max },
+    ghost slacked: { slack ≤ slack_max },
+}
+
+impl Bound {
+    // Slope × distance.
+    fn rise(self, distance: usize) -> u32
+        requires { distance ≤ last_max }
+        ensures value { result ≡ self.slope * distance }
+        ensures most { result ≤ slope_max * last_max }
+    {
+        self.slope * distance as u32
     }
-    None
+
+    // By how much two heights at that distance may differ.
+    fn reach(self, distance: usize) -> u32
+        requires { distance ≤ last_max }
+        ensures { result ≡ self.slope * distance + self.slack }
+    {
+        self.rise(distance) + self.slack
+    }
+}
+
+// A readable height, give or take a reach.
+#[derive(Clone, Copy, Drop)]
+struct Span {
+    height: i32,
+    reach: u32,
+    ghost ranged: { Height height },
+    ghost short: { reach ≤ slope_max * last_max + slack_max },
+}
+
+impl Span {
+    // Whether all of it stays under a limit.
+    fn stays_under(self, limit: i32) -> bool
+        ensures { result ≡ int_lt (self.height +ℤ pos self.reach) limit }
+    {
+        self.height + (self.reach as i32) < limit
+    }
+
+    // Whether all of it stays over a limit.
+    fn stays_over(self, limit: i32) -> bool
+        ensures { result ≡ int_lt limit (self.height -ℤ pos self.reach) }
+    {
+        limit < self.height - (self.reach as i32)
+    }
+
+    // The greater of its upper end and another height.
+    fn greater(self, other: i32) -> i32
+        ensures { result ≡ int_max other (self.height +ℤ pos self.reach) }
+    {
+        other.max(self.height + (self.reach as i32))
+    }
+
+    // The lesser of its lower end and another height.
+    fn lesser(self, other: i32) -> i32
+        ensures { result ≡ int_min other (self.height -ℤ pos self.reach) }
+    {
+        other.min(self.height - (self.reach as i32))
+    }
 }
 
 // Of the readable heights so far: the greatest height + slope × position and the least height − slope × position.
@@ -45,82 +104,90 @@ struct Extremes {
     least: i32,
 }
 
-// Whether a height and the reach together stay under a bound.
-fn stays_under(height: i32, reach: u32, bound: i32) -> bool
-    requires { (lowest_height ≤ℤ height) × ((height ≤ℤ highest_height) × (reach ≤ 160040000)) }
-    ensures { result ≡ int_lt (height +ℤ pos reach) bound }
-{
-    height + (reach as i32) < bound
-}
-
-// Whether a height stays over a bound, the reach taken off.
-fn stays_over(height: i32, reach: u32, bound: i32) -> bool
-    requires { (lowest_height ≤ℤ height) × ((height ≤ℤ highest_height) × (reach ≤ 160040000)) }
-    ensures { result ≡ int_lt bound (height -ℤ pos reach) }
-{
-    bound < height - (reach as i32)
-}
-
-// Whether a height is too far from some height before it; `rise` is slope × its position.
-fn is_stray(so_far: Extremes, height: i32, rise: u32, slack: u32) -> bool
-    requires { (lowest_height ≤ℤ height) × ((height ≤ℤ highest_height) × ((rise ≤ 160000000) × (slack ≤ slack_max))) }
-    ensures { result ≡ stray so_far.greatest so_far.least height rise slack }
-{
-    stays_under(height, rise + slack, so_far.greatest)
-        || stays_over(height, rise + slack, so_far.least)
-}
-
-// The greater of a bound and height + rise.
-fn raised(bound: i32, height: i32, rise: u32) -> i32
-    requires { (lowest_height ≤ℤ height) × ((height ≤ℤ highest_height) × (rise ≤ 160000000)) }
-    ensures { result ≡ int_max bound (height +ℤ pos rise) }
-{
-    bound.max(height + (rise as i32))
-}
-
-// The lesser of a bound and height − rise.
-fn lowered(bound: i32, height: i32, rise: u32) -> i32
-    requires { (lowest_height ≤ℤ height) × ((height ≤ℤ highest_height) × (rise ≤ 160000000)) }
-    ensures { result ≡ int_min bound (height -ℤ pos rise) }
-{
-    bound.min(height - (rise as i32))
-}
-
-// The extremes with one height more.
-fn with_height(so_far: Extremes, height: i32, rise: u32) -> Extremes
-    requires { (lowest_height ≤ℤ height) × ((height ≤ℤ highest_height) × (rise ≤ 160000000)) }
-    ensures greatest { result.greatest ≡ int_max so_far.greatest (height +ℤ pos rise) }
-    ensures least { result.least ≡ int_min so_far.least (height -ℤ pos rise) }
-{
-    Extremes {
-        greatest: raised(so_far.greatest, height, rise),
-        least: lowered(so_far.least, height, rise),
+impl Extremes {
+    // Whether a height is too far from some height before it; its span reaches slope × position + slack.
+    fn is_stray(self, span: Span) -> bool
+        ensures { result ≡ (int_lt (span.height +ℤ pos span.reach) self.greatest || int_lt self.least (span.height -ℤ pos span.reach)) }
+    {
+        span.stays_under(self.greatest) || span.stays_over(self.least)
     }
-}
 
-// The lowest position that breaks the law with an earlier one, and the lowest such earlier one.
-pub(crate) fn find_break<H: Heights>(heights: &H, slope: u32, slack: u32) -> Option<(u32, u32)>
-    requires sizes { (length (H.Heights.list heights.now) ≤ last_max + 1) × ((slope ≤ slope_max) × (slack ≤ slack_max)) }
-    requires ranged { first_outside (H.Heights.list heights.now) ≡ None }
-    ensures is { result ≡ first_break slope slack (H.Heights.list heights.now) }
-    ensures told { BreaksAreTold }
-{
-    // Outside of all that heights within their range can come to.
-    let mut so_far = Extremes {
-        greatest: -200_000_000,
-        least: 200_000_000,
-    };
-    for later in 0..heights.count() {
-        let height = heights.height(later);
-        if !is_marked(height) {
-            let rise = slope * later as u32;
-            if is_stray(so_far, height, rise, slack) {
-                // A stray height always has a partner.
-                let earlier = find_partner(heights, slope, slack, later)?;
-                return Some((later as u32, earlier));
-            }
-            so_far = with_height(so_far, height, rise);
+    // The extremes with one height more; its span reaches slope × position.
+    fn with(self, span: Span) -> Extremes
+        ensures greatest { result.greatest ≡ int_max self.greatest (span.height +ℤ pos span.reach) }
+        ensures least { result.least ≡ int_min self.least (span.height -ℤ pos span.reach) }
+    {
+        Extremes {
+            greatest: span.greater(self.greatest),
+            least: span.lesser(self.least),
         }
     }
-    None
+}
+
+// A list of no more heights than a sheet may have, and the bound that every two of them are to keep.
+#[derive(Drop)]
+pub(crate) struct Sheet<'a, H: Heights> {
+    pub(crate) heights: &'a H,
+    pub(crate) bound: Bound,
+    ghost short: { length (H.Heights.list heights.now) ≤ last_max + 1 },
+}
+
+impl<'a, H: Heights> Sheet<'a, H> {
+    // The lowest position whose height may not stand there.
+    pub(crate) fn find_outside(&self) -> Option<u32>
+        ensures { result ≡ first_outside (H.Heights.list self.now.heights.now) }
+    {
+        let heights = self.heights;
+        (0..heights.count() as u32).find(|&p| !is_allowed(heights.height(p as usize)))
+    }
+
+    // The lowest position before `later` that breaks the law with it.
+    fn find_partner(&self, later: usize) -> Option<u32>
+        requires { later < length (H.Heights.list self.now.heights.now) }
+        ensures { result ≡ partner self.now.bound.slope self.now.bound.slack (H.Heights.list self.now.heights.now) later }
+    {
+        let heights = self.heights;
+        let bound = self.bound;
+        let height = heights.height(later);
+        (0..later as u32).find(
+            |&earlier|
+                requires { (earlier < later) × ((later < length (H.Heights.list heights.now)) × (later ≤ last_max)) }
+            {
+                let reach = bound.reach(later - earlier as usize);
+                is_apart(reach, heights.height(earlier as usize), height)
+            },
+        )
+    }
+
+    // The lowest position that breaks the law with an earlier one, and the lowest such earlier one.
+    pub(crate) fn find_break(&self) -> Option<(u32, u32)>
+        requires { first_outside (H.Heights.list self.now.heights.now) ≡ None }
+        ensures is { result ≡ first_break self.now.bound.slope self.now.bound.slack (H.Heights.list self.now.heights.now) }
+        ensures told { BreaksAreTold }
+    {
+        let heights = self.heights;
+        let bound = self.bound;
+        // Outside of all that heights within their range can come to.
+        let mut so_far = Extremes {
+            greatest: -200_000_000,
+            least: 200_000_000,
+        };
+        for later in 0..heights.count() {
+            let height = heights.height(later);
+            if !is_marked(height) {
+                let rise = bound.rise(later);
+                let reach = rise + bound.slack;
+                if so_far.is_stray(Span { height, reach }) {
+                    // A stray height always has a partner.
+                    let earlier = self.find_partner(later)?;
+                    return Some((later as u32, earlier));
+                }
+                so_far = so_far.with(Span {
+                    height,
+                    reach: rise,
+                });
+            }
+        }
+        None
+    }
 }

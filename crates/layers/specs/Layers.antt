@@ -1,9 +1,11 @@
 -- The layers, as functions of the meanings below them.
-use Rattle.std.specs.Prelude.{ℕ, ◌+◌, ◌-◌, min, max, cond, ◌||◌, ℤ, pos, ◌+ℤ◌, ◌-ℤ◌, neg_ℤ, Ok, Err, ◌==◌, nat_lt}
+use Rattle.std.specs.Prelude.{ℕ, ◌+◌, ◌-◌, min, max, cond, ◌||◌, ℤ, pos, ◌+ℤ◌, ◌-ℤ◌, neg_ℤ, Ok, Err, Result, ◌==◌, nat_lt}
 use Rattle.std.specs.Int.{int_max, int_min, int_rem_euclid}
 use Rattle.terms.specs.declared.refusal.Refusal.TheVariants.{StepOutOfRange}
 use Rattle.terms.specs.Limits.{slope_max, slack_max, step_max, lowest_height, highest_height}
-use Rattle.terms.specs.Meaning.{Meaning}
+use Rattle.terms.specs.declared.fault.Fault.{Fault}
+use Rattle.terms.specs.Faults.{raised, beyond, layer_name}
+use Rattle.terms.specs.Meaning.{Meaning, Reading}
 use Rattle.heights.specs.Verdicts.{Verdict}
 use Rattle.gauges.specs.Layering.{over_meaning, join_meaning}
 
@@ -26,6 +28,16 @@ coarse_height q h = int_max lowest_height (rounded_down q h)
 -- coarse with step q: slack grows by q - 1, at most 40,000; slope and last stay
 abbrev pub coarse_meaning : ℕ → Meaning → Meaning
 coarse_meaning q m = over_meaning (coarse_height q) (min (m.slack + (q - 1)) slack_max) m
+
+-- the heights of two readings: a fault of the first ends the reading
+abbrev pub both : Reading → Reading → Result (ℤ × ℤ) Fault
+both (Ok a) (Ok b) = Ok (a, b)
+both (Ok a) (Err e) = Err (raised e)
+both (Err e) r = Err (raised e)
+
+-- the heights of two gauges up to the smaller last position; beyond it the fault of the layer
+abbrev pub both_up_to : Meaning → Meaning → ℕ → Result (ℤ × ℤ) Fault
+both_up_to m n p = cond (nat_lt (min m.last n.last) p) (Err (beyond p layer_name)) (both (m.reading p) (n.reading p))
 
 -- higher: the greater height, the greater slope, the greater slack
 abbrev pub higher_meaning : Meaning → Meaning → Meaning

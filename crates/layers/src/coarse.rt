@@ -16,6 +16,7 @@ pub struct Coarse<G> {
 }
 
 impl<G: Gauge> Coarse<G> {
+    #[tactic(auto, using(crate::proofs::Rounding::reads_greatest))]
     pub fn over(lower: G, step: Step) -> Coarse<G>
         ensures made { (result.lower ≡ lower) × (result.step ≡ step) }
         ensures rounded { ReadsGreatestMultiples result.step.size (G.Gauge.meaning result.lower) }

@@ -2,8 +2,9 @@ ghost use Rattle.std.specs.Prelude.{◌≡◌};
 ghost use Rattle.layers.specs.Layers.{higher_meaning};
 ghost use Rattle.layers.specs.Laws.{higher_lawful};
 
+use crate::pair::{common_last, read_both};
 use gauges::gauge::Gauge;
-use terms::fault::{Fault, LAYER};
+use terms::fault::Fault;
 
 // The greater height of two gauges.
 #[derive(Clone, Copy, Drop)]
@@ -26,7 +27,7 @@ impl<A: Gauge, B: Gauge> Gauge for Higher<A, B> {
     ghost lawful = { λ s. higher_lawful (A.Gauge.meaning s.first) (B.Gauge.meaning s.second) (A.Gauge.lawful s.first) (B.Gauge.lawful s.second) };
 
     fn last(&self) -> u32 {
-        self.first.last().min(self.second.last())
+        common_last(&self.first, &self.second)
     }
 
     fn slope(&self) -> u32 {
@@ -38,11 +39,7 @@ impl<A: Gauge, B: Gauge> Gauge for Higher<A, B> {
     }
 
     fn read(&self, position: u32) -> Result<i32, Fault> {
-        if position > self.last() {
-            return Err(Fault::beyond(position, LAYER));
-        }
-        let first = self.first.read_below(position)?;
-        let second = self.second.read_below(position)?;
+        let (first, second) = read_both(&self.first, &self.second, position)?;
         Ok(first.max(second))
     }
 }

@@ -4,6 +4,7 @@
 pub mod coarse;
 pub mod flip;
 pub mod higher;
+mod pair;
 pub mod step;
 pub mod sum;
 #[cfg(test)]

@@ -4,8 +4,9 @@ ghost use Rattle.layers.specs.Examples.{LayerExamples};
 ghost use Rattle.layers.specs.Layers.{sum_height, sum_meaning};
 ghost use Rattle.layers.specs.Laws.{sum_lawful};
 
+use crate::pair::{common_last, read_both};
 use gauges::gauge::Gauge;
-use terms::fault::{Fault, LAYER};
+use terms::fault::Fault;
 use terms::limits::{HEIGHT_MAX, SLACK_MAX, SLOPE_MAX};
 
 // The sum of the heights of two gauges.
@@ -16,6 +17,7 @@ pub struct Sum<A, B> {
 }
 
 impl<A, B> Sum<A, B> {
+    #[tactic(auto, using(crate::proofs::Shown::layer_examples))]
     pub fn of(first: A, second: B) -> Sum<A, B>
         ensures made { (result.first ≡ first) × (result.second ≡ second) }
         ensures examples { LayerExamples }
@@ -25,6 +27,7 @@ impl<A, B> Sum<A, B> {
 }
 
 // The sum of two heights, kept within their range.
+#[tactic(auto, unfolding(crate::specs::Layers::sum_height))]
 fn kept_sum(first: i32, second: i32) -> i32
     requires { (Height first) × (Height second) }
     ensures { result ≡ sum_height first second }
@@ -38,7 +41,7 @@ impl<A: Gauge, B: Gauge> Gauge for Sum<A, B> {
     ghost lawful = { λ s. sum_lawful (A.Gauge.meaning s.first) (B.Gauge.meaning s.second) (A.Gauge.lawful s.first) (B.Gauge.lawful s.second) };
 
     fn last(&self) -> u32 {
-        self.first.last().min(self.second.last())
+        common_last(&self.first, &self.second)
     }
 
     fn slope(&self) -> u32 {
@@ -50,11 +53,7 @@ impl<A: Gauge, B: Gauge> Gauge for Sum<A, B> {
     }
 
     fn read(&self, position: u32) -> Result<i32, Fault> {
-        if position > self.last() {
-            return Err(Fault::beyond(position, LAYER));
-        }
-        let first = self.first.read_below(position)?;
-        let second = self.second.read_below(position)?;
+        let (first, second) = read_both(&self.first, &self.second, position)?;
         Ok(kept_sum(first, second))
     }
 }

@@ -2,6 +2,7 @@ ghost use Rattle.std.specs.Prelude.{◌≡◌};
 ghost use Rattle.terms.specs.Faults.{raised, beyond, unread, cause_number};
 
 // The name that stands for a layer; the gauges at the bottom of a stack have names from 1 on.
+// A number and no Option: a fault's text has it in the place of a gauge's name, as 0.
 pub const LAYER: u8 = 0;
 
 // Why a reading has no height.
@@ -77,7 +78,7 @@ impl From<Raised> for Fault {
 }
 
 impl Cause {
-    // The number of each cause.
+    // The number of each cause, written out as the numbers of the refusals are, whose cases hold values.
     pub fn number(&self) -> u8
         ensures { result ≡ cause_number self.now }
     {

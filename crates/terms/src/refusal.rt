@@ -39,6 +39,7 @@ pub enum Refusal {
 // The values that a refusal tells beside its number.
 #[derive(Clone, Copy, PartialEq, Eq, Debug)]
 pub enum Told {
+    // A case and no Option around the others: each refusal's text ends in what it tells, by one `{told}`.
     Nothing,
     Position(u32),
     Pair { later: u32, earlier: u32 },

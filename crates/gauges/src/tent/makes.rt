@@ -4,7 +4,7 @@ ghost use Rattle.gauges.specs.Tents.{tent_verdict};
 
 use crate::tent::Tent;
 use heights::checks::{check_line, check_name};
-use terms::limits::HEIGHT_MAX;
+use terms::limits::is_height;
 use terms::refusal::Refusal;
 
 impl Tent {
@@ -14,7 +14,7 @@ impl Tent {
     {
         // A tent has no slack.
         check_line(last as usize, slope, 0)?;
-        if height < -HEIGHT_MAX || height > HEIGHT_MAX {
+        if !is_height(height) {
             return Err(Refusal::HeightOutOfRange { position: None });
         }
         check_name(name)?;

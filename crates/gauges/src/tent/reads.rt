@@ -11,6 +11,7 @@ use terms::limits::HEIGHT_MAX;
 
 impl Tent {
     // How far the height falls from the crown to a position.
+    #[tactic(auto, unfolding(terms::specs::Meaning::distance))]
     fn fall(&self, position: u32) -> u32
         requires { position ≤ self.now.last }
         ensures value { result ≡ self.now.slope * distance position self.now.crown }
@@ -30,7 +31,7 @@ impl Tent {
 impl Gauge for Tent {
     ghost meaning = { λ t. tent_meaning t.last t.slope t.crown t.height t.name };
 
-    ghost lawful = { λ t. tent_lawful t.last t.slope t.crown t.height t.name t.lasts t.slopes t.high };
+    ghost lawful = { λ t. tent_lawful t.last t.slope t.crown t.height t.name t.lasts t.slopes t.ranged.high };
 
     fn last(&self) -> u32 {
         self.last
