@@ -11,13 +11,11 @@ ghost use Rattle.fields.specs.Bits.{Stored, complement_of};
 ghost use Rattle.certificates.specs.Steps.{HeadWritten, TouchWritten, TouchesWritten};
 
 use crate::layout::{
-    CEILING_AT, CEILING_WIDTH, COUNT_AT, COUNT_WIDTH, FLOOR_AT, HEIGHT_WIDTH, LAST_WIDTH,
-    POSITION_WIDTH, SLACK_AT, SLACK_WIDTH, SLOPE_AT, SLOPE_WIDTH, TOLERANCE_AT, TOLERANCE_WIDTH,
-    TOUCH_WIDTH, TOUCHES_AT,
+    CEILING, COUNT, FLOOR, LAST, SLACK, SLOPE, TOLERANCE, TOUCH_WIDTH, TOUCHES_AT, height_at,
+    position_at,
 };
 use caps::{Line, Outlook, Touch};
 use envelope::looks::{is_settled, look};
-use fields::{put, put_signed};
 use logs::log::Log;
 use terms::refusal::Refusal;
 
@@ -26,7 +24,7 @@ fn size(count: usize) -> usize
     requires { count ≤ 256 }
     ensures { result ≡ certificate_size count }
 {
-    (TOUCHES_AT + TOUCH_WIDTH * count + 7) / 8
+    (TOUCHES_AT + TOUCH_WIDTH * count).div_ceil(8)
 }
 
 // What the touches tell; their floor lies on the line.
@@ -91,7 +89,7 @@ fn put_ceiling(buf: &mut [u8], seen: Outlook)
     requires { 98 ≤ 8 * length buf.old }
     ensures { Stored buf.old buf.new 81 17 (complement_of 17 seen.ceiling) }
 {
-    put_signed(buf, CEILING_AT, CEILING_WIDTH, seen.ceiling);
+    CEILING.put_signed(buf, seen.ceiling);
 }
 
 // Writes the fields before the touches.
@@ -101,17 +99,12 @@ fn write_head(buf: &mut [u8], line: Line, tolerance: u16, count: usize, seen: Ou
     requires room { 98 ≤ 8 * length buf.old }
     ensures { HeadWritten line tolerance count seen buf.old buf.new }
 {
-    put(buf, 0, LAST_WIDTH, u32::from(line.last));
-    put(buf, SLOPE_AT, SLOPE_WIDTH, u32::from(line.slope));
-    put(buf, SLACK_AT, SLACK_WIDTH, u32::from(line.slack));
-    put(buf, TOLERANCE_AT, TOLERANCE_WIDTH, u32::from(tolerance));
-    put(buf, COUNT_AT, COUNT_WIDTH, count as u32);
-    put(
-        buf,
-        FLOOR_AT,
-        POSITION_WIDTH,
-        u32::from(seen.floor.position),
-    );
+    LAST.put(buf, u32::from(line.last));
+    SLOPE.put(buf, u32::from(line.slope));
+    SLACK.put(buf, u32::from(line.slack));
+    TOLERANCE.put(buf, u32::from(tolerance));
+    COUNT.put(buf, count as u32);
+    FLOOR.put(buf, u32::from(seen.floor.position));
     put_ceiling(buf, seen);
 }
 
@@ -121,14 +114,8 @@ fn write_touch(buf: &mut [u8], place: usize, touch: Touch)
     requires room { 98 + 28 * (place + 1) ≤ 8 * length buf.old }
     ensures { TouchWritten place touch buf.old buf.new }
 {
-    let at = TOUCHES_AT + TOUCH_WIDTH * place;
-    put(buf, at, POSITION_WIDTH, u32::from(touch.position));
-    put_signed(
-        buf,
-        at + POSITION_WIDTH,
-        HEIGHT_WIDTH,
-        i32::from(touch.height),
-    );
+    position_at(place).put(buf, u32::from(touch.position));
+    height_at(place).put_signed(buf, i32::from(touch.height));
 }
 
 // Writes the touches after the head.

@@ -1,9 +1,9 @@
 -- Laws of `num`, over any width.
-use Rattle.std.proofs.Common.{◌≡◌, ℕ, zero, suc, ◌+◌, ◌-◌, ◌*◌, ◌/◌, ◌%◌, ◌^◌, ◌<◌, ◌≤◌, List, length, get_or, sym, refl, ap, ◌∙◌, add-zero, mul_assoc, pow-suc, div-one, add-one, arith}
+use Rattle.std.proofs.Common.{◌≡◌, ℕ, zero, suc, ◌+◌, ◌-◌, ◌*◌, ◌/◌, ◌%◌, ◌^◌, ◌<◌, ◌≤◌, List, length, get_or, sym, refl, ap, ◌∙◌, add-zero, zero-add, take, drop, mul_assoc, pow-suc, div-one, add-one, arith}
 use native.Mathlib.Nat.{div-eq_of_lt}
 use Rattle.std.proofs.lemmas.Nat.{mod_below, shr-shr, div-add-mod', shr_high, mod_low, mod-mul-add}
 use Rattle.std.proofs.lemmas.List.FromFn.{get_or-map-range_with_len}
-use Rattle.std.proofs.lemmas.List.{ext_get_or}
+use Rattle.std.proofs.lemmas.List.{ext_get_or, get_or-take, get_or-drop, length-take-le, length-drop}
 use Rattle.fields.specs.Bits.{bit, num, field_of, bytes_of}
 
 -- one bit more
@@ -13,10 +13,6 @@ num_more f a w = rw add-one
 pub field_none : (bs : List ℕ) (a : ℕ) → field_of bs a 0 ≡ 0
 unfolding field_of
 field_none bs a = refl
-
-pub field_more : (bs : List ℕ) (a w : ℕ) → field_of bs a (w + 1) ≡ field_of bs a w * 2 + bit bs (a + w)
-unfolding field_of
-field_more bs a w = num_more (bit bs) a w
 
 pub pow_more : (w : ℕ) → 2 ^ (w + 1) ≡ 2 * 2 ^ w
 pow_more w = rw (add-one, pow-suc) (omega arith)
@@ -70,12 +66,9 @@ num-bit f h a w k l =
     rw (s, shr_high (num f a (suc k)) r (num f (a + suc k) r) (num_lt f h (a + suc k) r)) (mod-mul-add (num f a k) 2 (f (a + k)) (h (a + k)))
 
 -- a byte is the field of its 8 bits
-pub place : (i k : ℕ) → k < 8 → ((8 * i + k) / 8 ≡ i) × ((8 * i + k) % 8 ≡ k)
-place i k l = (omega arith, omega arith)
-
 pub num_byte : (bs : List ℕ) (i : ℕ) → get_or bs i 0 < 256 → num (bit bs) (8 * i) 8 ≡ get_or bs i 0
 num_byte bs i small =
-    num-value (bit bs) (8 * i) 8 (get_or bs i 0) small (λ k l. let d = (place i k l).0 in let m = (place i k l).1 in rw (d, m))
+    num-value (bit bs) (8 * i) 8 (get_or bs i 0) small (λ k l. let d : (8 * i + k) / 8 ≡ i = omega arith in let m : (8 * i + k) % 8 ≡ k = omega arith in rw (d, m))
 
 -- the bits of whole bytes
 pub bit_bytes_of : (f : ℕ → ℕ) → ((i : ℕ) → f i < 2) → (n i : ℕ) → i < 8 * n → bit (bytes_of n f) i ≡ f i
@@ -97,12 +90,26 @@ num_inside f h a o w r =
     (mod_low (num f a o) w (num f (a + o) w) (num_lt f h (a + o) w))
 
 -- one byte more
-pub field_byte_more : (bs : List ℕ) (s i : ℕ) → s ≤ i → get_or bs i 0 < 256 → field_of bs (8 * s) (8 * (i + 1 - s)) ≡ field_of bs (8 * s) (8 * (i - s)) * 256 + get_or bs i 0
+pub field_byte_more : (bs : List ℕ) (i : ℕ) → get_or bs i 0 < 256 → field_of bs 0 (8 * (i + 1)) ≡ field_of bs 0 (8 * i) * 256 + get_or bs i 0
 unfolding field_of
-field_byte_more bs s i l small =
-    let e : 8 * (i + 1 - s) ≡ 8 * (i - s) + 8 = omega arith in
-    let g : 8 * s + 8 * (i - s) ≡ 8 * i = omega arith in
-    rw (e, num_split (bit bs) (8 * s) (8 * (i - s)) 8, g, num_byte bs i small)
+field_byte_more bs i small =
+    let e : 8 * (i + 1) ≡ 8 * i + 8 = omega arith in
+    let z : 0 + 8 * i ≡ 8 * i = zero-add (8 * i) in
+    rw (e, num_split (bit bs) 0 (8 * i) 8, z, num_byte bs i small)
+
+-- n bytes cut out write the field that they are there
+pub field_slice : (bs : List ℕ) (s n : ℕ) → s + n ≤ length bs → field_of (take n (drop s bs)) 0 (8 * length (take n (drop s bs))) ≡ field_of bs (8 * s) (8 * n)
+unfolding field_of
+field_slice bs s n room =
+    let long : length (take n (drop s bs)) ≡ n = length-take-le n (drop s bs) (omega (arith, length-drop s bs)) in
+    ap (λ k. num (bit (take n (drop s bs))) 0 (8 * k)) long
+    ∙ num_same (bit (take n (drop s bs))) (bit bs) 0 (8 * s) (8 * n)
+    (λ k l.
+    let d : (8 * s + k) / 8 ≡ s + k / 8 = omega arith in
+    let m : (8 * s + k) % 8 ≡ k % 8 = omega arith in
+    let t = get_or-take n (drop s bs) (k / 8) 0 (omega arith) in
+    let g = get_or-drop s bs (k / 8) 0 in
+    rw (zero-add, d, m, t, g))
 
 pub field_inside : (bs : List ℕ) (a b o w r n : ℕ) → a + o ≡ b → n ≡ o + w + r → field_of bs a n / 2 ^ r % 2 ^ w ≡ field_of bs b w
 unfolding field_of

@@ -1,5 +1,5 @@
 -- What one bit written leaves of a byte, and of a byte list.
-use Rattle.std.proofs.Common.{◌≡◌, ℕ, ◌+◌, ◌-◌, ◌*◌, ◌/◌, ◌%◌, ◌^◌, ◌<◌, ◌≤◌, List, length, get_or, drop, set, sym, refl, ap, ◌∙◌, subst, ⊎_elim, mul_assoc, arith, below_more}
+use Rattle.std.proofs.Common.{◌≡◌, ℕ, ◌+◌, ◌-◌, ◌*◌, ◌/◌, ◌%◌, ◌^◌, ◌<◌, ◌≤◌, List, length, get_or, drop, set, sym, ap, ◌∙◌, subst, ⊎_elim, mul_assoc, arith, below_more}
 use native.Mathlib.Nat.{mul-mod_left}
 use Rattle.std.proofs.lemmas.Nat.{pow-add, mod-mul-add, div-mul-add, shr-shr, shl-shr, shr_below, shl_below}
 use Rattle.std.proofs.lemmas.List.{get_or-set_same, get_or-set_other, drop-set-lt, drop-drop}
@@ -87,9 +87,6 @@ pub record Put (old : List ℕ) (a width value k : ℕ) (new : List ℕ) : Type 
   pub written : (j : ℕ) → j < k → bit new (a + j) ≡ value / 2 ^ (width - 1 - j) % 2
   pub pad : (i : ℕ) → a + k ≤ i → i < 8 * ((a + k + 7) / 8) → 0 < k → bit new i ≡ 0
   pub after : drop ((a + k + 7) / 8) new ≡ drop ((a + k + 7) / 8) old
-
-pub put_none : (old : List ℕ) (a width value : ℕ) → Put old a width value 0 old
-put_none old a width value = record { before = λ i l. refl; written = λ j l. absurd (omega arith); pad = λ i l m p. absurd (omega arith); after = refl }
 
 module _ (old : List ℕ) (a width value k : ℕ) (bs : List ℕ) (h : Put old a width value k bs) (v : ℕ) (is : v ≡ value / 2 ^ (width - 1 - k) % 2) (ins : (a + k) / 8 < length bs) where
   pub put_more : Put old a width value (k + 1) (set bs ((a + k) / 8) (stamped (get_or bs ((a + k) / 8) 0) ((a + k) % 8) v))

@@ -4,34 +4,70 @@
 ghost use Rattle.std.specs.Prelude.{◌≡◌, ℕ, ◌+◌, ◌-◌, ◌*◌, ◌/◌, ◌%◌, ◌^◌, ◌<◌, ◌≤◌, length, pos, slice_index, slice_set};
 ghost use Rattle.fields.specs.Bits.{bit, field_of, stamped, signed_of, complement_of, Stored, Packing};
 
-// The whole bytes from `start` to before `end`, as one number.
-fn whole_bytes(bytes: &[u8], start: usize, end: usize) -> u32
-    requires { (start ≤ end) × ((end ≤ start + 4) × (end ≤ length bytes.now)) }
-    ensures { result ≡ field_of bytes.now (8 * start) (8 * (end - start)) }
+// Where a field lies: its first bit, and how many bits it has.
+#[derive(Clone, Copy)]
+pub struct Field {
+    pub at: usize,
+    pub width: usize,
+    ghost some: { 0 < width },
+    ghost narrow: { width ≤ 32 },
+    ghost near: { at < 2 ^ 60 },
+}
+
+impl Field {
+    // The number that the bits of the field write.
+    pub fn read(self, bytes: &[u8]) -> u32
+        requires { (self.width ≤ 17) × (self.at + self.width ≤ 8 * length bytes.now) }
+        ensures { (result ≡ field_of bytes.now self.at self.width) × (result < 2 ^ self.width) }
+    {
+        let end = (self.at + self.width).div_ceil(8);
+        let whole = whole_bytes(&bytes[self.at / 8..end]);
+        (whole >> (8 * end - self.at - self.width)) & ((1 << self.width) - 1)
+    }
+
+    // The number that the bits of the field write in two's complement.
+    pub fn read_signed(self, bytes: &[u8]) -> i32
+        requires { (self.width ≤ 17) × (self.at + self.width ≤ 8 * length bytes.now) }
+        ensures { result ≡ signed_of self.width (field_of bytes.now self.at self.width) }
+    {
+        let raw = self.read(bytes) as i32;
+        if raw < power(self.width - 1) {
+            raw
+        } else {
+            raw - power(self.width)
+        }
+    }
+
+    // Writes `value` in the bits of the field, and 0 bits up to the end of the last byte that it writes.
+    pub fn put(self, buf: &mut [u8], value: u32)
+        requires { (self.at + self.width ≤ 8 * length buf.old) × (value < 2 ^ self.width) }
+        ensures stored { Stored buf.old buf.new self.at self.width value }
+        ensures packing { Packing }
+    {
+        for k in 0..self.width {
+            put_bit(buf, self.at + k, bit_of(value, self.width, k));
+        }
+    }
+
+    // Writes `value` in two's complement, as `put` does.
+    pub fn put_signed(self, buf: &mut [u8], value: i32)
+        requires { (self.width ≤ 17) × (self.at + self.width ≤ 8 * length buf.old) }
+        ensures { Stored buf.old buf.new self.at self.width (complement_of self.width value) }
+    {
+        self.put(buf, complement(value, self.width));
+    }
+}
+
+// The bytes as one number, the first byte highest.
+fn whole_bytes(bytes: &[u8]) -> u32
+    requires { length bytes.now ≤ 4 }
+    ensures { result ≡ field_of bytes.now 0 (8 * length bytes.now) }
 {
     let mut whole: u32 = 0;
-    for i in start..end {
-        whole = whole << 8 | u32::from(bytes[i]);
+    for byte in bytes {
+        whole = whole << 8 | u32::from(*byte);
     }
     whole
-}
-
-// The field of `width` bits at the bit `at`, whose last bit lies in the byte before `end`.
-fn cut(bytes: &[u8], at: usize, width: usize, end: usize) -> u32
-    requires field { (0 < width) × ((width ≤ 17) × (at < 2 ^ 60)) }
-    requires end { (at + width ≤ 8 * end) × ((8 * end < at + width + 8) × (end ≤ length bytes.now)) }
-    ensures { (result ≡ field_of bytes.now at width) × (result < 2 ^ width) }
-{
-    let whole = whole_bytes(bytes, at / 8, end);
-    (whole >> (8 * end - at - width)) & ((1 << width) - 1)
-}
-
-// The field of `width` bits at the bit `at`.
-pub fn field(bytes: &[u8], at: usize, width: usize) -> u32
-    requires { (0 < width) × ((width ≤ 17) × ((at + width ≤ 8 * length bytes.now) × (at < 2 ^ 60))) }
-    ensures { (result ≡ field_of bytes.now at width) × (result < 2 ^ width) }
-{
-    cut(bytes, at, width, (at + width + 7) / 8)
 }
 
 // The byte with its first `place` bits as they are, then the bit `one`, then 0 bits.
@@ -60,17 +96,6 @@ fn put_bit(buf: &mut [u8], at: usize, one: u32)
     buf[at / 8] = stamp(buf[at / 8], at % 8, one);
 }
 
-// Writes the low `width` bits of `value` at the bit `at`, and 0 bits up to the end of the last byte that it writes.
-pub fn put(buf: &mut [u8], at: usize, width: usize, value: u32)
-    requires { (0 < width) × ((width ≤ 32) × ((at + width ≤ 8 * length buf.old) × ((at < 2 ^ 60) × (value < 2 ^ width)))) }
-    ensures stored { Stored buf.old buf.new at width value }
-    ensures packing { Packing }
-{
-    for k in 0..width {
-        put_bit(buf, at + k, bit_of(value, width, k));
-    }
-}
-
 // How many numbers have `width` bits.
 fn power(width: usize) -> i32
     requires { width ≤ 17 }
@@ -79,31 +104,10 @@ fn power(width: usize) -> i32
     1 << width
 }
 
-// The field of `width` bits at the bit `at`, in two's complement.
-pub fn signed_field(bytes: &[u8], at: usize, width: usize) -> i32
-    requires { (0 < width) × ((width ≤ 17) × ((at + width ≤ 8 * length bytes.now) × (at < 2 ^ 60))) }
-    ensures { result ≡ signed_of width (field_of bytes.now at width) }
-{
-    let raw = field(bytes, at, width) as i32;
-    if raw < power(width - 1) {
-        raw
-    } else {
-        raw - power(width)
-    }
-}
-
 // The bits of `value` in two's complement.
 fn complement(value: i32, width: usize) -> u32
     requires { width ≤ 17 }
     ensures { (result ≡ complement_of width value) × (result < 2 ^ width) }
 {
     value.rem_euclid(power(width)) as u32
-}
-
-// Writes `value` in two's complement at the bit `at`, as `put` does.
-pub fn put_signed(buf: &mut [u8], at: usize, width: usize, value: i32)
-    requires { (0 < width) × ((width ≤ 17) × ((at + width ≤ 8 * length buf.old) × (at < 2 ^ 60))) }
-    ensures { Stored buf.old buf.new at width (complement_of width value) }
-{
-    put(buf, at, width, complement(value, width));
 }

@@ -33,10 +33,9 @@ mod tests {
 
     // The number that a record is refused with, 0 where it is accepted.
     fn answer(bytes: &[u8], name: u8) -> u8 {
-        match tested(bytes, name) {
-            Ok(()) => 0,
-            Err(refusal) => refusal.number(),
-        }
+        tested(bytes, name)
+            .err()
+            .map_or(0, |refusal| refusal.number())
     }
 
     #[test]

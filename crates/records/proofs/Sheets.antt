@@ -2,7 +2,7 @@
 use Rattle.std.proofs.Common.{◌≡◌, ℕ, zero, suc, ◌+◌, ◌-◌, ◌*◌, ◌/◌, ◌%◌, ◌^◌, ◌<◌, ◌≤◌, true, false, not, List, [], ◌∷◌, map, length, get_or, ℤ, pos, negsuc, is_ok, Ok, sym, refl, ap, ◌∙◌, subst, ⊎_elim, arith}
 use native.Mathlib.Nat.{zero-div}
 use Rattle.std.specs.List.{range_with_len}
-use Rattle.std.proofs.lemmas.List.FromFn.{length-map-range_with_len, fill_by_all}
+use Rattle.std.proofs.lemmas.List.FromFn.{fill_by_all}
 use Rattle.std.proofs.lemmas.Int.{ints}
 use Rattle.std.proofs.lemmas.Bool.{both_ways, cases_Bool, cases_lt, le-ltb, eq-eqb, eqb-true, ne_eqb, not-false}
 use Rattle.heights.specs.Heights.{height_at, marked, allowed}
@@ -20,6 +20,7 @@ use Rattle.records.specs.Sheet.{Sheet, sheet_with, last_of, slope_of, slack_of, 
 use Rattle.records.specs.Verdict.{shape_verdict, record_verdict, verdict_of}
 use Rattle.records.specs.Laws.{Accepted, accepted, sheet_passes}
 use Rattle.records.specs.Theorem.{OneRecordEach, Bytes}
+use Rattle.records.proofs.Heights.{length_heights}
 
 pub fit_heights : (hs : List ℤ) → Fit (map height_field hs)
 fit_heights [] = tt
@@ -157,7 +158,7 @@ module _ (b : List ℕ) (name : ℕ) (h : record_verdict b name ≡ Ok tt) where
   kept = accepted b name (ap is_ok h)
 
   count_is : length (heights_of b (last_of b + 1)) ≡ last_of b + 1
-  count_is = length-map-range_with_len (height_of b) 0 (last_of b + 1)
+  count_is = length_heights b (last_of b + 1)
 
   says : Reads (bit b) 0 (fields_of (sheet_of b))
   unfolding sheet_of field_of

@@ -2,8 +2,7 @@ ghost use Rattle.std.specs.Prelude.{◌≡◌, ℕ, ◌+◌, ◌*◌, ◌≤◌,
 ghost use Rattle.terms.specs.Limits.{last_max};
 ghost use Rattle.records.specs.Sheet.{heights_of};
 
-use crate::layout::{HEIGHT_WIDTH, HEIGHTS_AT};
-use fields::signed_field;
+use crate::layout::height_at;
 use heights::list::Heights;
 
 // The heights of a record, where they lie in its bytes.
@@ -17,6 +16,7 @@ pub(crate) struct Packed<'a> {
 
 impl<'a> Packed<'a> {
     // A window over the first `count` heights.
+    #[tactic(auto, using(crate::proofs::Heights::length_heights))]
     pub(crate) fn new(bytes: &'a [u8], count: usize) -> Packed<'a>
         requires { (44 + 16 * count ≤ 8 * length bytes.now) × (count ≤ last_max + 1) }
         ensures window { (result.bytes.now ≡ bytes.now) × (result.count ≡ count) }
@@ -29,15 +29,13 @@ impl<'a> Packed<'a> {
 impl<'a> Heights for Packed<'a> {
     ghost list = { λ p. heights_of p.bytes.now p.count };
 
+    #[tactic(auto, using(crate::proofs::Heights::length_heights))]
     fn count(&self) -> usize {
         self.count
     }
 
+    #[tactic(auto, using(crate::proofs::Heights::length_heights))]
     fn height(&self, position: usize) -> i32 {
-        signed_field(
-            self.bytes,
-            HEIGHTS_AT + HEIGHT_WIDTH * position,
-            HEIGHT_WIDTH,
-        )
+        height_at(position).read_signed(self.bytes)
     }
 }

@@ -3,12 +3,8 @@ ghost use Rattle.terms.specs.Limits.{last_max};
 ghost use Rattle.records.specs.Sheet.{last_of};
 ghost use Rattle.records.specs.Verdict.{record_verdict, shape_verdict};
 
-use crate::layout::{
-    HEAD_BYTES, HEIGHT_BYTES, HEIGHT_WIDTH, HEIGHTS_AT, LAST_WIDTH, PAD_WIDTH, SLACK_AT,
-    SLACK_WIDTH, SLOPE_AT, SLOPE_WIDTH,
-};
+use crate::layout::{HEAD_BYTES, LAST, SLACK, SLOPE, pad_after, size};
 use crate::packed::Packed;
-use fields::field;
 use heights::checks;
 use terms::refusal::Refusal;
 
@@ -19,7 +15,7 @@ fn last_of(bytes: &[u8]) -> u32
     requires { 6 ≤ length bytes.now }
     ensures { result ≡ last_of bytes.now }
 {
-    field(bytes, 0, LAST_WIDTH)
+    LAST.read(bytes)
 }
 
 // The tests of the length that the last position calls for, and of the pad bits.
@@ -27,10 +23,10 @@ fn check_shape(bytes: &[u8], last: usize) -> Result<(), Refusal>
     requires { last ≤ last_max }
     ensures { result ≡ shape_verdict bytes.now last }
 {
-    if bytes.len() != HEAD_BYTES + HEIGHT_BYTES * (last + 1) {
+    if bytes.len() != size(last + 1) {
         return Err(Refusal::RecordLengthWrong);
     }
-    if field(bytes, HEIGHTS_AT + HEIGHT_WIDTH * (last + 1), PAD_WIDTH) != 0 {
+    if pad_after(last + 1).read(bytes) != 0 {
         return Err(Refusal::PadBitSet);
     }
     Ok(())
@@ -44,8 +40,8 @@ pub fn check(bytes: &[u8], name: u8) -> Result<(), Refusal>
         return Err(Refusal::RecordTooShort);
     }
     let last = last_of(bytes) as usize;
-    let slope = field(bytes, SLOPE_AT, SLOPE_WIDTH);
-    let slack = field(bytes, SLACK_AT, SLACK_WIDTH);
+    let slope = SLOPE.read(bytes);
+    let slack = SLACK.read(bytes);
     checks::check_line(last, slope, slack)?;
     check_shape(bytes, last)?;
     checks::check_heights(&Packed::new(bytes, last + 1), slope, slack)?;
@@ -69,5 +65,12 @@ impl<'a> Record<'a> {
         ensures { (result.bytes.now ≡ bytes.now) × (result.name ≡ name) }
     {
         Record { bytes, name }
+    }
+
+    // The bytes of the record.
+    pub fn bytes(&self) -> &'a [u8]
+        ensures { result.now ≡ self.now.bytes.now }
+    {
+        self.bytes
     }
 }

@@ -1,6 +1,6 @@
-use Rattle.std.proofs.Common.{◌≡◌, ◌-◌, ◌*◌}
+use Rattle.std.proofs.Common.{◌≡◌, ◌*◌}
 use Rattle.fields.specs.Bits.{field_of}
 use Rattle.fields.proofs.whole_bytes.Given as goal
 
-abbrev pub invariant-loop-i : goal.invariant-loop-i
-invariant-loop-i l = l.whole ≡ field_of l.bytes (8 * l.start) (8 * (l.i - l.start))
+abbrev pub invariant-loop-byte : goal.invariant-loop-byte
+invariant-loop-byte l = l.whole ≡ field_of l.bytes 0 (8 * l.byte-index)

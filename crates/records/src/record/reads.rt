@@ -1,9 +1,8 @@
 ghost use Rattle.records.specs.Laws.{record_meaning, record_lawful};
 
-use crate::layout::{SLACK_AT, SLACK_WIDTH, SLOPE_AT, SLOPE_WIDTH};
+use crate::layout::{SLACK, SLOPE};
 use crate::packed::Packed;
 use crate::record::{Record, last_of};
-use fields::field;
 use gauges::gauge::Gauge;
 use heights::reading::reading;
 use terms::fault::Fault;
@@ -13,16 +12,17 @@ impl<'a> Gauge for Record<'a> {
 
     ghost lawful = { λ r. record_lawful r.bytes.now r.name r.passes };
 
+    #[tactic(auto, using(crate::proofs::Heights::length_heights))]
     fn last(&self) -> u32 {
         last_of(self.bytes)
     }
 
     fn slope(&self) -> u32 {
-        field(self.bytes, SLOPE_AT, SLOPE_WIDTH)
+        SLOPE.read(self.bytes)
     }
 
     fn slack(&self) -> u32 {
-        field(self.bytes, SLACK_AT, SLACK_WIDTH)
+        SLACK.read(self.bytes)
     }
 
     fn read(&self, position: u32) -> Result<i32, Fault> {

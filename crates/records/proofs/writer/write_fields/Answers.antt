@@ -40,7 +40,7 @@ loop-p-init c = (
 pub loop-p-preserved : goal.loop-p-preserved
 loop-p-preserved c =
     let f : SFits w32 (get_or c.args.heights.now c.loop-p.p (pos 0)) = search rules in (
-      next c.args.slope c.args.slack c.args.heights.now (omega arith) (omega arith) (omega arith) _ _ _ c.loop-p.p (omega arith) c.loop-p.invariant.0 (simp to_z-of_z at c.put_signed.ensures),
+      next c.args.slope c.args.slack c.args.heights.now (omega arith) (omega arith) (omega arith) _ _ _ c.loop-p.p (omega arith) c.loop-p.invariant.0 (simp (c.height_at.ensures.at, c.height_at.ensures.width, to_z-of_z) at c.put_signed.ensures),
       (λ i. (c.type_inv.buf i).fits),
     )
 
