@@ -1,4 +1,6 @@
 // Positions are whole tenths of a millimetre, heights whole micrometres.
+ghost use Rattle.std.specs.Prelude.{Decides};
+ghost use Rattle.terms.specs.Meaning.{Height};
 
 // The highest last position.
 pub const LAST_MAX: u32 = 4_000;
@@ -23,3 +25,10 @@ pub const TOLERANCE_MAX: u32 = 40_000;
 
 // The most touches that a survey keeps.
 pub const TOUCHES_MAX: u32 = 256;
+
+// Whether a number is a height.
+pub fn is_height(height: i32) -> bool
+    ensures { Decides result (Height height) }
+{
+    (-HEIGHT_MAX..=HEIGHT_MAX).contains(&height)
+}
