@@ -18,12 +18,10 @@ fn is_after(touch: &Touch, position: u16) -> bool
 fn place_of(touches: &[Touch], position: u16) -> usize
     ensures { result ≡ places_before position touches.now }
 {
-    for (i, touch) in touches.iter().enumerate() {
-        if is_after(touch, position) {
-            return i;
-        }
-    }
-    touches.len()
+    touches
+        .iter()
+        .position(|touch| is_after(touch, position))
+        .unwrap_or(touches.len())
 }
 
 // Puts `item` at the place `at` of the first `count` items; those from there on move up by one.

@@ -2,3 +2,4 @@ pub mod Lowest
 pub mod Roofs
 pub mod Walks
 pub mod Views
+pub mod Crests

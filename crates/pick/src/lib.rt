@@ -1,7 +1,7 @@
 // The first item of highest rank: one text for every kind of item that has a whole-number rank.
 #![tactic(auto)]
 
-ghost use Rattle.std.specs.Prelude.{◌≡◌, ℤ};
+ghost use Rattle.std.specs.Prelude.{◌≡◌, ℤ, Some, int_lt};
 ghost use Rattle.std.specs.Iterator.{AlwaysYields, IsFinite};
 ghost use Rattle.pick.specs.Picks.{picked, Picks, better, first_above, Finds};
 
@@ -13,13 +13,13 @@ pub trait Ranked {
         ensures { result ≡ level self.now };
 }
 
-// The better of the pick so far and one more item.
-fn higher<T: Ranked + Copy>(best: Option<T>, item: T) -> T
-    ensures { result ≡ better T.Ranked.level best item }
+// The pick so far with one more item: the better of the two.
+fn higher<T: Ranked + Copy>(best: Option<T>, item: T) -> Option<T>
+    ensures { result ≡ Some (better T.Ranked.level best item) }
 {
     match best {
-        Some(held) if item.rank() <= held.rank() => held,
-        _ => item,
+        Some(held) if item.rank() <= held.rank() => best,
+        _ => Some(item),
     }
 }
 
@@ -32,7 +32,14 @@ where
     ensures is { (xs : _) → AlwaysYields I.next_gives (λ x. x) items xs → result ≡ picked I.Item.Ranked.level xs }
     ensures first { (xs : _) → AlwaysYields I.next_gives (λ x. x) items xs → Picks I.Item.Ranked.level xs result }
 {
-    items.fold(None, |best, item| Some(higher(best, item)))
+    items.fold(None, higher)
+}
+
+// Whether the item's rank exceeds the bound.
+fn is_above<T: Ranked>(item: &T, bound: i32) -> bool
+    ensures { result ≡ int_lt bound (T.Ranked.level item.now) }
+{
+    bound < item.rank()
 }
 
 // The first item above the bound; where there is none, none.
@@ -44,5 +51,5 @@ where
     ensures is { (xs : _) → AlwaysYields I.next_gives (λ x. x) items xs → result ≡ first_above I.Item.Ranked.level bound xs }
     ensures first { (xs : _) → AlwaysYields I.next_gives (λ x. x) items xs → Finds I.Item.Ranked.level bound xs result }
 {
-    items.find(|item| bound < item.rank())
+    items.find(|item| is_above(item, bound))
 }
