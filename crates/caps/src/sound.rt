@@ -33,6 +33,7 @@ fn do_follow(line: Line, touches: &[Touch]) -> bool
     requires { line.last ≤ last_max }
     ensures { Decides result (AllFollow line 0 touches.now) }
 {
+    // A loop, since `all` carries nothing from one touch to the next.
     let mut from = 0;
     for touch in touches {
         if !does_follow(line, from, *touch) {

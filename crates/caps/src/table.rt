@@ -30,6 +30,7 @@ fn insert_at<T: Copy>(items: &mut [T], count: usize, at: usize, item: T)
     requires room { count < length items.old }
     ensures { items.new ≡ inserted (take count items.old) at item ++ drop (count + 1) items.old }
 {
+    // Element by element: the table is a fixed one, and takes no heap.
     let mut carried = item;
     for i in at..count + 1 {
         let slot = &mut items[i];

@@ -2,4 +2,3 @@ pub mod Lowest
 pub mod Roofs
 pub mod Walks
 pub mod Views
-pub mod Crests

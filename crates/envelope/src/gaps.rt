@@ -14,11 +14,11 @@ pub struct Gaps<'t, 'f> {
     seen: Touched<'t>,
     // For each place, the least of height + slope × position over the touches from there on.
     falls: &'f [i32],
-    // The touches before this place lie behind. A place and no slice that is left: the touches behind bound a gap as those ahead do.
+    // The touches before this place lie behind. It is a place, and no slice of those ahead: what is proved of a walk names those behind too.
     at: usize,
     // The position after them.
     from: u16,
-    // The least of height - slope × position over them. It starts at i32::MAX: an Option would be asked at every touch.
+    // The least of height - slope × position over them, over none i32::MAX: a running least asks nothing at a touch, an Option would.
     left: i32,
     ghost walking: { Walking seen.line seen.touches.now falls.now at from left } by { Prim.hlevel (props, InOrder-prop) },
 }

@@ -3,7 +3,7 @@ ghost use Rattle.std.specs.Prelude.{◌≡◌, ◌+◌, ◌*◌, ◌≤◌, pos,
 ghost use Rattle.std.specs.Int.{int_min};
 ghost use Rattle.terms.specs.Limits.{last_max, slope_max};
 ghost use Rattle.caps.specs.Stretches.{Peak};
-ghost use Rattle.caps.specs.Crossings.{rise, fall, roof, crossing, within};
+ghost use Rattle.caps.specs.Crossings.{rise, fall, roof, crossing, within, beside};
 ghost use Rattle.envelope.specs.Walks.{line_max};
 
 use crate::touched::Touched;
@@ -80,7 +80,7 @@ impl Roof {
     // Of the two whole neighbours of the crossing, kept within from .. to, the one where the roof is higher, the lower on a tie.
     fn crest(self, from: u16, to: u16) -> Summit
         requires { (from ≤ to) × (to ≤ last_max) }
-        ensures place { Peak (roof self.slope self.left self.right) from to result.place }
+        ensures place { result.place ≡ beside (roof self.slope self.left self.right) from to (crossing self.slope self.left self.right) }
         ensures cap { result.cap ≡ roof self.slope self.left self.right result.place }
         ensures small { unsigned_abs result.cap ≤ 2 * line_max }
     {
