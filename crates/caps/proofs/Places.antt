@@ -1,8 +1,7 @@
 -- The place of a new touch, and the test of touches.
-use Rattle.std.proofs.Common.{◌≡◌, ℕ, suc, ◌+◌, ◌-◌, ◌<◌, ◌≤◌, true, false, ltb, List, [], ◌∷◌, ◌++◌, length, get_or, take, drop, pos, sym, refl, ap, ◌∙◌, arith}
+use Rattle.std.proofs.Common.{◌≡◌, ℕ, suc, ◌+◌, ◌-◌, ◌<◌, ◌≤◌, ltb, List, [], ◌∷◌, ◌++◌, length, take, drop, pos, sym, refl, ap, ◌∙◌, arith}
 use Rattle.std.specs.List.{insert as inserted}
 use Rattle.std.proofs.ByRecursion.{All-weaker}
-use Rattle.std.proofs.lemmas.List.{drop_more, drop_all}
 use Rattle.std.proofs.lemmas.Bool.{cond_both, cond-true, cond-false}
 use Rattle.std.proofs.lemmas.Bool.Decides.{nat_tests}
 use Rattle.caps.specs.declared.Touch.{Touch}
@@ -33,17 +32,12 @@ table_is T n u at after e is =
     let here : at ≡ places_before u.position (take n T) = e ∙ ap (λ k. places_before u.position (take k T)) same in
     is ∙ ap (λ k. inserted (take n T) k u ++ drop (n + 1) T) here ∙ ap (λ (us : List Touch). us ++ drop (n + 1) T) (inserted_is u (take n T))
 
-module _ (p : ℕ) (ts : List Touch) (i : ℕ) where
-  pub before_here : i < length ts → ltb p (get_or ts i no_touch).position ≡ false → places_before p (drop i ts) ≡ 1 + places_before p (drop (i + 1) ts)
-  before_here lt e =
-      ap (places_before p) (drop_more ts i no_touch lt) ∙ cond-false _ _ _ e
-      ∙ (let k : suc (places_before p (drop (i + 1) ts)) ≡ 1 + places_before p (drop (i + 1) ts) = omega arith in k)
+-- A touch after p ends those at p or before.
+pub before_stop : (p : ℕ) (t : Touch) (ts : List Touch) → p < t.position → places_before p (t ∷ ts) ≡ 0
+before_stop p t ts h = grind (arith, nat_tests)
 
-  pub before_stop : i < length ts → ltb p (get_or ts i no_touch).position ≡ true → places_before p (drop i ts) ≡ 0
-  before_stop lt e = ap (places_before p) (drop_more ts i no_touch lt) ∙ cond-true _ _ _ e
-
-  pub before_all : length ts ≤ i → places_before p (drop i ts) ≡ 0
-  before_all le = ap (places_before p) (drop_all i ts le)
+pub before_here : (p : ℕ) (t : Touch) (ts : List Touch) → t.position ≤ p → places_before p (t ∷ ts) ≡ places_before p ts + 1
+before_here p t ts h = grind (arith, nat_tests)
 
 -- Touches follow when the first does and the others follow after it.
 module _ (line : Line) (from : ℕ) (t : Touch) (ts : List Touch) where

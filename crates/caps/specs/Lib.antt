@@ -7,3 +7,4 @@ pub mod Outlooks
 pub mod Crossings
 pub mod Laws
 pub mod Figures
+pub mod Props

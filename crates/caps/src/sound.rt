@@ -1,12 +1,11 @@
 // The test of a line and its touches.
 ghost use Rattle.std.specs.Prelude.{◌≡◌, ◌≤◌, Decides};
 ghost use Rattle.terms.specs.Limits.{last_max};
-ghost use Rattle.terms.specs.Meaning.{Height};
 ghost use Rattle.caps.specs.Touches.{WithinLimits, Sound};
 ghost use Rattle.caps.specs.Places.{Follows, AllFollow};
 
 use crate::{Line, Touch};
-use terms::limits::{HEIGHT_MAX, LAST_MAX, SLACK_MAX, SLOPE_MAX, TOUCHES_MAX};
+use terms::limits::{LAST_MAX, SLACK_MAX, SLOPE_MAX, TOUCHES_MAX, is_height};
 
 // The places of a table of touches.
 pub const PLACES: usize = TOUCHES_MAX as usize;
@@ -22,18 +21,11 @@ fn is_within_limits(line: Line) -> bool
         && u32::from(line.slack) <= SLACK_MAX
 }
 
-// Whether a height is within its limits.
-fn is_height(height: i16) -> bool
-    ensures { Decides result (Height height) }
-{
-    -HEIGHT_MAX <= i32::from(height) && i32::from(height) <= HEIGHT_MAX
-}
-
 // Whether the touch lies on the line at `from` or after, its height within the limits.
 fn does_follow(line: Line, from: u16, touch: Touch) -> bool
     ensures { Decides result (Follows line from touch) }
 {
-    from <= touch.position && touch.position <= line.last && is_height(touch.height)
+    from <= touch.position && touch.position <= line.last && is_height(i32::from(touch.height))
 }
 
 // Whether the touches lie on the line in rising order, their heights within the limits.
@@ -41,6 +33,7 @@ fn do_follow(line: Line, touches: &[Touch]) -> bool
     requires { line.last ≤ last_max }
     ensures { Decides result (AllFollow line 0 touches.now) }
 {
+    // A loop, since `all` carries nothing from one touch to the next.
     let mut from = 0;
     for touch in touches {
         if !does_follow(line, from, *touch) {

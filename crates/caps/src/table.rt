@@ -18,12 +18,10 @@ fn is_after(touch: &Touch, position: u16) -> bool
 fn place_of(touches: &[Touch], position: u16) -> usize
     ensures { result ≡ places_before position touches.now }
 {
-    for (i, touch) in touches.iter().enumerate() {
-        if is_after(touch, position) {
-            return i;
-        }
-    }
-    touches.len()
+    touches
+        .iter()
+        .position(|touch| is_after(touch, position))
+        .unwrap_or(touches.len())
 }
 
 // Puts `item` at the place `at` of the first `count` items; those from there on move up by one.
@@ -32,6 +30,7 @@ fn insert_at<T: Copy>(items: &mut [T], count: usize, at: usize, item: T)
     requires room { count < length items.old }
     ensures { items.new ≡ inserted (take count items.old) at item ++ drop (count + 1) items.old }
 {
+    // Element by element: the table is a fixed one, and takes no heap.
     let mut carried = item;
     for i in at..count + 1 {
         let slot = &mut items[i];

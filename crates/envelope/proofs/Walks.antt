@@ -1,5 +1,5 @@
 -- What a walk over the gaps tells.
-use Rattle.std.proofs.Common.{◌≡◌, ℕ, ◌+◌, ◌-◌, ◌*◌, ◌<◌, ◌≤◌, List, [], ◌∷◌, ◌++◌, map, length, get_or, take, drop, ℤ, pos, ◌+ℤ◌, ◌-ℤ◌, nat_abs, ◌≤ℤ◌, Some, Option, sym, refl, ap, ◌∙◌, subst, ⊎_elim, arith, length-drop, take-append-drop, length-take-le}
+use Rattle.std.proofs.Common.{◌≡◌, ℕ, ◌+◌, ◌-◌, ◌*◌, ◌<◌, ◌≤◌, List, [], ◌∷◌, ◌++◌, map, length, get_or, take, drop, ℤ, pos, ◌+ℤ◌, ◌-ℤ◌, nat_abs, ◌≤ℤ◌, Some, None, Option, MatchOption, sym, refl, ap, ◌∙◌, subst, ⊎_elim, arith, length-drop, take-append-drop, length-take-le}
 use borrow.Author.Differences.{ints}
 use Rattle.std.specs.Int.{int_min}
 use Rattle.std.specs.List.{AllByRecursion}
@@ -9,7 +9,6 @@ use Rattle.std.proofs.lemmas.Bool.{cases_lt, cond-true, cond-false, lt-ltb, le-l
 use Rattle.std.proofs.lemmas.Nat.{mul-le}
 use Rattle.terms.specs.Limits.{last_max, slope_max}
 use Rattle.terms.specs.Meaning.{Height}
-use Rattle.pick.specs.Picks.{head, tail}
 use Rattle.caps.specs.declared.Touch.{Touch}
 use Rattle.caps.specs.declared.Line.{Line}
 use Rattle.caps.specs.declared.Summit.{Summit}
@@ -23,6 +22,11 @@ use Rattle.caps.proofs.Crossings.{rising_peak, falling_peak}
 use Rattle.envelope.specs.Walks.{line_max, lowest, summits_from, strip_of, Walking}
 use Rattle.envelope.proofs.Lowest.{lowest_push, lowest-small}
 use Rattle.envelope.proofs.Roofs.{both_sides, left_side, right_side}
+
+-- The last call of a walk, which tells the last of the list or that nothing is left.
+pub ended : {A : Type 0} (o : Option A) (before xs after : List A) → before ≡ xs → MatchOption o (xs ≡ []) (λ x. xs ≡ x ∷ []) → after ≡ [] → MatchOption o ((before ≡ []) × (after ≡ [])) (λ x. before ≡ x ∷ after)
+ended None before xs after e h none = (e ∙ h, none)
+ended (Some x) before xs after e h none = e ∙ h ∙ ap (λ (ys : List _). x ∷ ys) (sym none)
 
 -- The two lines of a touch fit well within 32 bits.
 module _ (line : Line) (ts : List Touch) (h : Sound line ts) where
@@ -117,16 +121,17 @@ module _ {line : Line} {ts : List Touch} {falls : List ℤ} {at from : ℕ} {lef
         at_end : ℤ → Summit
         at_end z = record { cap = z; place = line.last }
 
-    -- The strip is the first of the summits still to come.
-    pub strip_is : (o : Option Summit) (l : ℤ) → l ≡ left → o ≡ strip_of line l from → o ≡ head (summits_from line ts from R)
+    -- The strip is the first of the summits still to come, and the last.
+    pub strip_is : (o : Option Summit) (l : ℤ) → l ≡ left → o ≡ strip_of line l from → MatchOption o (summits_from line ts from R ≡ []) (λ s. summits_from line ts from R ≡ s ∷ [])
     strip_is o l same e =
         ⊎_elim
-        (λ h. e ∙ cond-false _ _ _ (lt-leb from line.last h) ∙ sym (ap head (summits_none h)))
-        (λ h. e ∙ cond-true _ _ _ (le-leb from line.last h) ∙ ap Some (beyond_is (record { cap = (l +ℤ pos (line.slope * line.last)) +ℤ pos line.slack; place = line.last }) l same h refl) ∙ sym (ap head (summits_tail h)))
+        (λ h. subst Told (sym (e ∙ cond-false _ _ _ (lt-leb from line.last h))) (summits_none h))
+        (λ h. subst Told (sym (e ∙ cond-true _ _ _ (le-leb from line.last h)))
+        (summits_tail h ∙ ap (λ s. s ∷ []) (sym (beyond_is (record { cap = (l +ℤ pos (line.slope * line.last)) +ℤ pos line.slack; place = line.last }) l same h refl))))
         (cases_lt line.last from)
-
-    pub no_more : tail (summits_from line ts from R) ≡ []
-    no_more = ⊎_elim (λ h. ap tail (summits_none h)) (λ h. ap tail (summits_tail h)) (cases_lt line.last from)
+      where
+        Told : Option Summit → Type 0
+        Told o = MatchOption o (summits_from line ts from R ≡ []) (λ s. summits_from line ts from R ≡ s ∷ [])
 
     pub walking_end : Walking line ts falls at (line.last + 1) left
     walking_end = record {
@@ -174,6 +179,9 @@ module _ {line : Line} {ts : List Touch} {falls : List ℤ} {at from : ℕ} {lef
 
     pub summits_take : from < t.position → summits_from line ts from R ≡ summit_of f (record { from = from; to = t.position - 1 }) ∷ summits_from line ts (t.position + 1) (drop (at + 1) ts)
     summits_take h = ap (summits_from line ts from) split ∙ ap (map (summit_of f)) (cond-true _ _ _ (lt-ltb from t.position h))
+
+    pub summits_told : (s : Summit) → from < t.position → s ≡ summit_of f (record { from = from; to = t.position - 1 }) → summits_from line ts from R ≡ s ∷ summits_from line ts (t.position + 1) (drop (at + 1) ts)
+    summits_told s h is = summits_take h ∙ ap (λ u. u ∷ summits_from line ts (t.position + 1) (drop (at + 1) ts)) (sym is)
 
     pub summits_skip : t.position ≤ from → summits_from line ts from R ≡ summits_from line ts (t.position + 1) (drop (at + 1) ts)
     summits_skip h = ap (summits_from line ts from) split ∙ ap (map (summit_of f)) (cond-false _ _ _ (le-ltb from t.position h))

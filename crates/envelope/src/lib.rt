@@ -4,4 +4,5 @@
 pub mod falls;
 pub mod gaps;
 pub mod looks;
-pub mod peak;
+mod roof;
+pub mod touched;

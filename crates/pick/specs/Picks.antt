@@ -2,15 +2,6 @@
 use Rattle.std.specs.Prelude.{◌≡◌, cond, List, [], ◌∷◌, ◌++◌, ℤ, ◌≤ℤ◌, ◌<ℤ◌, Some, None, Option, int_lt}
 use Rattle.std.specs.List.{AllByRecursion}
 
--- the first item of a list, and what comes after it
-abbrev pub head : {X : Type 0} → List X → Option X
-head [] = None
-head (x ∷ xs) = Some x
-
-abbrev pub tail : {X : Type 0} → List X → List X
-tail [] = []
-tail (x ∷ xs) = xs
-
 -- x, unless the item picked after it has a higher rank
 abbrev pub held : {X : Type 0} → (X → ℤ) → X → Option X → X
 held f x None = x

@@ -1,18 +1,18 @@
-use Rattle.std.proofs.Common.{◌≡◌, Some, None, sym, subst, rules}
-use Rattle.pick.specs.Picks.{first_above, Finds}
-use Rattle.pick.proofs.Computed.{above_finds}
+use Rattle.std.proofs.Common.{◌≤ℤ◌, ◌<ℤ◌, rules, sym, subst}
+use Rattle.std.proofs.lemmas.Iterator.{first_from_find}
+use Rattle.pick.specs.Picks.{Finds}
+use Rattle.pick.proofs.Computed.{above_found, above_finds}
 use Rattle.pick.proofs.first_above.Goals as goal
 
-pub returns-then-is_above : goal.returns-then-is_above
-returns-then-is_above g c =
-    let f = g.S.Item.Ranked.level in
-    let all = g.S.Source.rest c.args.source in
-    let is : Some c.in-Some.item ≡ first_above g.S.Item.Ranked.level c.args.bound (g.S.Source.rest c.args.source) = search rules in
-    record { is = is; first = subst (Finds f c.args.bound all) (sym is) (above_finds f c.args.bound all) }
+pub returns-clause-is : goal.returns-clause-is
+returns-clause-is g c = λ xs h.
+    let f = g.I.Item.Ranked.level in
+    let z = c.args.bound in
+    above_found f z xs c.find.result
+    (first_from_find {steps = g.I.Iterator.next_gives} {s = c.args.items} c.find.new.self _ c.find.result (λ y. z <ℤ f y) (λ y. f y ≤ℤ z) c.find.ensures.ran (record { runs = h }) (λ x q k. search rules) (λ x q k. search rules))
 
-pub returns : goal.returns
-returns g c =
-    let f = g.S.Item.Ranked.level in
-    let all = g.S.Source.rest c.args.source in
-    let is : None ≡ first_above g.S.Item.Ranked.level c.args.bound (g.S.Source.rest c.args.source) = search rules in
-    record { is = is; first = subst (Finds f c.args.bound all) (sym is) (above_finds f c.args.bound all) }
+pub returns-clause-first : goal.returns-clause-first
+returns-clause-first g c = λ xs h.
+    let f = g.I.Item.Ranked.level in
+    let z = c.args.bound in
+    subst (Finds f z xs) (sym (returns-clause-is g c xs h)) (above_finds f z xs)
