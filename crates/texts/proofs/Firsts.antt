@@ -18,6 +18,9 @@ module _ (p : ℕ → Bool) (xs : List ℕ) where
   within : position_or_len p xs ≤ length xs
   within = prefix_len-le-length (λ x. not (p x)) xs
 
+  pub before_within : before p xs ≤ length xs
+  before_within = let w = within in let b = before_is in omega arith
+
   -- where none passes, all of them do
   pub before_or_all : unwrap_or (position p xs) (length xs) ≡ before p xs
   before_or_all = let w = within in let b = before_is in grind (arith, common_steps)
