@@ -1,5 +1,4 @@
 pub mod Cuts
-pub mod Numbers
 pub mod Reading
 pub mod Lines
 pub mod Parts

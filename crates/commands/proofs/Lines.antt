@@ -1,9 +1,11 @@
 -- The lines of an input, one after another.
-use Rattle.std.proofs.Common.{◌≡◌, ℕ, suc, ◌+◌, ◌-◌, ◌<◌, ◌≤◌, true, not, eqb, List, [], ◌∷◌, length, get_or, take, drop, filter, sym, refl, ap, ◌∙◌, ⊎_elim, add-zero, arith, length-drop}
-use Rattle.std.proofs.lemmas.List.{at_drop_more, at_drop_all, drop-drop, length-take-le}
-use Rattle.std.proofs.lemmas.Bool.{eq-eqb, ne_eqb, cond-true, cases_Bool}
+use Rattle.std.proofs.Common.{◌≡◌, ℕ, suc, ◌+◌, ◌-◌, ◌<◌, ◌≤◌, Bool, true, not, ◌==◌, eqb, List, [], ◌∷◌, length, get_or, take, drop, filter, position, Some, None, Option, sym, refl, ap, ◌∙◌, ⊎_elim, add-zero, arith, length-drop}
+use Rattle.std.proofs.lemmas.List.{get_or-drop, drop_all, drop-drop, length-take-le}
+use Rattle.std.proofs.lemmas.Bool.{eqb-false, not-true, ne_eqb, cond-true, cases_Bool}
 use Rattle.std.proofs.lemmas.Slice.{between_to_end}
-use Rattle.commands.proofs.Cuts.{before_next}
+use Rattle.texts.proofs.Firsts as first
+use Rattle.commands.proofs.Cuts.{before_next, before_or_all, before_within}
+use Rattle.std.specs.Option.{unwrap_or}
 use Rattle.commands.specs.Pieces.{Piece}
 use Rattle.commands.specs.Lines.{line_end, Cut, cut, is_some, lines_at, lines_from, before, IsNext}
 
@@ -17,12 +19,19 @@ full-lines c = filter is_some (c.first ∷ c.others)
 ends_empty : (x : ℕ) (xs : List ℕ) (q : ℕ) → eqb x line_end ≡ true → lines_at q (x ∷ xs) ≡ lines_at (q + 1) xs
 ends_empty x xs q e = rw e refl
 
--- an empty line is skipped
-pub lines_skip : (xs : List ℕ) (i : ℕ) → i < length xs → get_or xs i 0 ≡ line_end → lines_from xs i ≡ lines_from xs (i + 1)
-lines_skip xs i h e = at_drop_more (lines_at i) xs i 0 h ∙ ends_empty (get_or xs i 0) (drop (i + 1) xs) i (eq-eqb _ _ e)
+-- empty lines are skipped
+abbrev is_other : ℕ → Bool
+is_other x = not (x == line_end)
 
-pub lines_none : (xs : List ℕ) (i : ℕ) → length xs ≤ i → lines_from xs i ≡ []
-lines_none xs i h = at_drop_all (lines_at i) xs i h
+lines_skip : (p : ℕ) (xs : List ℕ) → lines_at p xs ≡ lines_at (p + first.before is_other xs) (drop (first.before is_other xs) xs)
+lines_skip p [] = ap (λ q. lines_at q []) (sym (add-zero p))
+lines_skip p (x ∷ xs) =
+    ⊎_elim
+    (λ e. let n : p + 1 + first.before is_other xs ≡ p + suc (first.before is_other xs) = omega arith in
+    rw e (lines_skip (p + 1) xs ∙ ap (λ q. lines_at q (drop (first.before is_other xs) xs)) n))
+    (λ e. let z : first.before is_other (x ∷ xs) ≡ 0 = cond-true (is_other x) 0 (suc (first.before is_other xs)) (ap not e) in
+    ap (λ q. lines_at q (x ∷ xs)) (sym (add-zero p)) ∙ ap (λ k. lines_at (p + k) (drop k (x ∷ xs))) (sym z))
+    (cases_Bool (eqb x line_end))
 
 -- a line goes up to the next line end
 pub first_line : (p : ℕ) (xs : List ℕ) → (cut p xs).first ≡ part_at (take (before line_end xs) xs) p
@@ -67,9 +76,29 @@ next_of xs s m h ne e w =
       within = omega arith;
     }
 
--- the line as the code cuts it
-pub next_cut : (xs : List ℕ) (s m : ℕ) → s < length xs → (get_or xs s 0 ≡ line_end → ⊥) → m ≡ before line_end (take (length xs - s) (drop s xs)) → m ≤ length (take (length xs - s) (drop s xs)) → IsNext xs s (part_at (take (s + m - s) (drop s xs)) s)
-next_cut xs s m h ne e w =
-    let d : take (length xs - s) (drop s xs) ≡ drop s xs = between_to_end xs s (length xs) (omega arith) in
-    let z : s + m - s ≡ m = omega arith in
-    rw z (next_of xs s m h ne (rw d at e) (rw d at w))
+-- the next line as the code cuts it: what follows p has its first byte of a line at k, and the line ends at the next line end, if there is one
+module _ (xs : List ℕ) (p : ℕ) (from : List ℕ) (after : from ≡ take (length xs - p) (drop p xs)) where
+  from_is : from ≡ drop p xs
+  from_is = after ∙ between_to_end xs p (length xs) (omega arith)
+
+  pub no_line : None ≡ position is_other from → lines_from xs p ≡ []
+  no_line e =
+      let all : first.before is_other from ≡ length from = first.before_none is_other from e in
+      ap (lines_at p) (sym from_is) ∙ lines_skip p from ∙ ap (λ k. lines_at (p + k) (drop k from)) all ∙ ap (lines_at (p + length from)) (drop_all (length from) from (omega arith))
+
+  pub next_cut : (k : ℕ) → Some k ≡ position is_other from → (rest : List ℕ) (o : Option ℕ) (m : ℕ) → rest ≡ take (length xs - (p + k)) (drop (p + k) xs) → o ≡ position (λ x. x == line_end) rest → m ≡ unwrap_or o (length rest) →
+      IsNext xs p (part_at (take m rest) (p + k))
+  next_cut k e rest o m r ends f =
+      let s : ℕ = p + k in
+      let there : k < length from = first.some_within is_other from k e in
+      let long : length from ≡ length xs - p = ap length from_is ∙ length-drop p xs in
+      let rest_is : rest ≡ drop (p + k) xs = r ∙ between_to_end xs (p + k) (length xs) (omega arith) in
+      let byte : get_or from k 0 ≡ get_or xs (p + k) 0 = ap (λ ys. get_or ys k 0) from_is ∙ get_or-drop p xs k 0 in
+      let ne : get_or xs (p + k) 0 ≡ line_end → ⊥ = λ q. eqb-false _ _ (not-true _ (first.passes is_other from k e)) (byte ∙ q) in
+      let cut-at : m ≡ before line_end rest = f ∙ ap (λ r. unwrap_or r (length rest)) ends ∙ before_or_all line_end rest in
+      let within : m ≤ length rest = omega (arith, before_within line_end rest) in
+      let next : IsNext xs (p + k) (part_at (take m (drop (p + k) xs)) (p + k)) = next_of xs (p + k) m (omega arith) ne (cut-at ∙ ap (before line_end) rest_is) (rw (sym rest_is) within) in
+      let skipped : lines_from xs p ≡ lines_from xs (p + k) =
+      ap (lines_at p) (sym from_is) ∙ lines_skip p from ∙ ap (λ j. lines_at (p + j) (drop j from)) (sym (first.before_some is_other from k e))
+      ∙ ap (lines_at (p + k)) (ap (drop k) from_is ∙ drop-drop k p xs) in
+      rw rest_is record { lines = skipped ∙ next.lines; stands = next.stands; onward = omega (arith, next.onward); within = next.within }

@@ -11,7 +11,7 @@ use Rattle.commands.specs.Lines.{space, before}
 use Rattle.commands.specs.Orders.{Order, high, left, ask, at, run, tol, unknown, value, is_number, alone, numbered, perhaps_numbered, before_space, after_space, spaced, order_of, call_of}
 use Rattle.commands.specs.Theorems.{Numbered, Written, CallsAsWritten, NumbersReadBack}
 use Rattle.commands.proofs.Lines.{part_at}
-use Rattle.commands.proofs.Numbers.{by_weight}
+use Rattle.texts.proofs.Digits.{by_weight}
 
 is_it : (bs ds : List ℕ) → bytes_eq bs ds ≡ true → bs ≡ ds
 is_it bs ds h = (bytes_eq-Decides bs ds).0 h

@@ -1,12 +1,13 @@
 -- What a line says.
-use Rattle.std.specs.Prelude.{◌≡◌, ℕ, ◌+◌, ◌-◌, ◌*◌, ◌^◌, ◌<◌, ◌≤◌, Bool, cond, ◌&&◌, List, [], ◌∷◌, map, length, take, drop, Some, None, codes, Option, ◌==◌, nat_le}
-use Rattle.std.specs.Str.{bytes_eq, all_ascii_digits}
+use Rattle.std.specs.Prelude.{◌≡◌, ℕ, ◌+◌, ◌<◌, ◌≤◌, cond, List, [], ◌∷◌, map, length, take, drop, Some, None, codes, Option, ◌==◌}
+use Rattle.std.specs.Str.{bytes_eq}
 use Rattle.surveys.specs.declared.calls.Call.{Call}
 use Rattle.surveys.specs.declared.calls.Call.TheVariants as call
 use Rattle.commands.specs.declared.command.Command.{Command}
 use Rattle.commands.specs.declared.command.Command.TheVariants as command
 use Rattle.commands.specs.Pieces.{Piece, piece, StandsIn}
 use Rattle.commands.specs.Lines.{space, before, lines, lines_from}
+pub use Rattle.texts.specs.Numbers.{value, is_number, number_of}
 
 -- a command with the pieces of the input that say it
 pub data Order : Type 0 where
@@ -26,18 +27,6 @@ order (command.At v d n) = at (piece v) (piece d) n
 order (command.Run v d n) = run (piece v) (piece d) n
 order (command.Tol v d n) = tol (piece v) (piece d) n
 order (command.Unknown l) = unknown (piece l)
-
--- the number that decimal digits write
-abbrev pub value : List ℕ → ℕ
-value [] = 0
-value (d ∷ ds) = (d - 48) * 10 ^ length ds + value ds
-
--- 1 to 5 decimal digits
-abbrev pub is_number : List ℕ → Bool
-is_number ds = nat_le 1 (length ds) && (nat_le (length ds) 5 && all_ascii_digits ds)
-
-abbrev pub number_of : List ℕ → Option ℕ
-number_of ds = cond (is_number ds) (Some (value ds)) None
 
 -- a line of one word: `high`, `left` and `ask` stand alone
 abbrev pub alone : Piece → Order

@@ -1,93 +1,48 @@
 // Reads a line where it lies.
-ghost use Rattle.std.specs.Prelude.{◌≡◌, ◌+◌, ◌^◌, ◌<◌, ◌≤◌, length, Decides};
-ghost use Rattle.std.specs.Str.{bytes_eq};
+ghost use Rattle.std.specs.Prelude.{◌≡◌, ◌+◌, ◌^◌, ◌<◌, ◌≤◌, length, not, position, ◌==◌};
 ghost use Rattle.commands.specs.Pieces.{piece};
-ghost use Rattle.commands.specs.Lines.{line_end, space, before, NextLine};
+ghost use Rattle.commands.specs.Lines.{line_end, space, NextLine};
 ghost use Rattle.commands.specs.Theorems.{LinesAreTheInput, CallsAsWritten, NumbersReadBack};
-ghost use Rattle.commands.specs.Orders.{order, number_of, alone, numbered, before_space, after_space, order_of, NextOrder};
+ghost use Rattle.commands.specs.Orders.{order, alone, numbered, before_space, after_space, order_of, NextOrder};
 
 use crate::command::Command;
 use crate::part::Part;
+use texts::number::number;
 
 const LINE_END: u8 = b'\n';
 
 const SPACE: u8 = b' ';
 
-// The most digits that a number has.
-const DIGITS_MAX: usize = 5;
-
-// Whether a word of the input is that fixed one.
-fn is_same(word: &[u8], fixed: &[u8]) -> bool
-    ensures { result ≡ bytes_eq word.now fixed.now }
+// Where the first line that is not empty begins.
+fn line_start(bytes: &[u8]) -> Option<usize>
+    ensures { result ≡ position (λ b. not (b == line_end)) bytes.now }
 {
-    word == fixed
+    bytes.iter().position(|byte| *byte != LINE_END)
 }
 
-// How many bytes stand before the first `b`.
-fn until(bytes: &[u8], b: u8) -> usize
-    ensures value { result ≡ before b bytes.now }
-    ensures within { result ≤ length bytes.now }
+// Where the line end stands that ends it.
+fn line_end(bytes: &[u8]) -> Option<usize>
+    ensures { result ≡ position (λ b. b == line_end) bytes.now }
 {
-    for (i, x) in bytes.iter().enumerate() {
-        if *x == b {
-            return i;
-        }
-    }
-    bytes.len()
+    bytes.iter().position(|byte| *byte == LINE_END)
 }
 
-// How long the line is that begins here.
-fn line_length(bytes: &[u8]) -> usize
-    ensures value { result ≡ before line_end bytes.now }
-    ensures within { result ≤ length bytes.now }
+// Where the space stands that ends the first word.
+fn word_end(line: &[u8]) -> Option<usize>
+    ensures { result ≡ position (λ b. b == space) line.now }
 {
-    until(bytes, LINE_END)
-}
-
-// How long the first word of a line is.
-fn word_length(line: &[u8]) -> usize
-    ensures value { result ≡ before space line.now }
-    ensures within { result ≤ length line.now }
-{
-    until(line, SPACE)
-}
-
-// Whether a number may have so many digits.
-fn has_digits(count: usize) -> bool
-    ensures { Decides result ((1 ≤ count) × (count ≤ 5)) }
-{
-    1 <= count && count <= DIGITS_MAX
-}
-
-// The number that 1 to 5 decimal digits write.
-fn number(digits: &[u8]) -> Option<u32>
-    ensures { result ≡ number_of digits.now }
-{
-    if !has_digits(digits.len()) {
-        return None;
-    }
-    let mut n: u32 = 0;
-    for d in digits {
-        if !d.is_ascii_digit() {
-            return None;
-        }
-        n = 10 * n + u32::from(*d - b'0');
-    }
-    Some(n)
+    line.iter().position(|byte| *byte == SPACE)
 }
 
 // The command of a line that is one word.
 fn read_alone(line: Part<'_>) -> Command<'_>
     ensures { order result ≡ alone (piece line.entry) }
 {
-    if is_same(line.bytes, b"high") {
-        Command::High { verb: line }
-    } else if is_same(line.bytes, b"left") {
-        Command::Left { verb: line }
-    } else if is_same(line.bytes, b"ask") {
-        Command::Ask { verb: line }
-    } else {
-        Command::Unknown { line }
+    match line.bytes {
+        b"high" => Command::High { verb: line },
+        b"left" => Command::Left { verb: line },
+        b"ask" => Command::Ask { verb: line },
+        _ => Command::Unknown { line },
     }
 }
 
@@ -95,26 +50,23 @@ fn read_alone(line: Part<'_>) -> Command<'_>
 fn read_numbered<'a>(line: Part<'a>, verb: Part<'a>, digits: Part<'a>, number: u32) -> Command<'a>
     ensures { order result ≡ numbered (piece line.entry) (piece verb.entry) (piece digits.entry) number }
 {
-    if is_same(verb.bytes, b"at") {
-        Command::At {
+    match verb.bytes {
+        b"at" => Command::At {
             verb,
             digits,
             number,
-        }
-    } else if is_same(verb.bytes, b"run") {
-        Command::Run {
+        },
+        b"run" => Command::Run {
             verb,
             digits,
             number,
-        }
-    } else if is_same(verb.bytes, b"tol") {
-        Command::Tol {
+        },
+        b"tol" => Command::Tol {
             verb,
             digits,
             number,
-        }
-    } else {
-        Command::Unknown { line }
+        },
+        _ => Command::Unknown { line },
     }
 }
 
@@ -146,15 +98,14 @@ pub(crate) fn read_line(line: Part<'_>) -> Command<'_>
     requires { line.place + length line.bytes.now < 2 ^ 64 }
     ensures { order result ≡ order_of (piece line.entry) }
 {
-    let n = word_length(line.bytes);
-    if n == line.bytes.len() {
+    let Some(n) = word_end(line.bytes) else {
         return read_alone(line);
-    }
+    };
     let digits = rest_of(line, n);
-    match number(digits.bytes) {
-        None => Command::Unknown { line },
-        Some(number) => read_numbered(line, first_word(line, n), digits, number),
-    }
+    let Some(number) = number(digits.bytes) else {
+        return Command::Unknown { line };
+    };
+    read_numbered(line, first_word(line, n), digits, number)
 }
 
 // The first line that begins at `from` or after and is not empty.
@@ -162,17 +113,12 @@ pub(crate) fn next_line(input: &[u8], from: usize) -> Option<Part<'_>>
     requires { from ≤ length input.now }
     ensures { NextLine input.now from result }
 {
-    let mut start = from;
-    while start < input.len() && input[start] == LINE_END {
-        start += 1;
-    }
-    if start == input.len() {
-        return None;
-    }
-    let end = start + line_length(&input[start..]);
+    let place = from + line_start(&input[from..])?;
+    let rest = &input[place..];
+    let length = line_end(rest).unwrap_or(rest.len());
     Some(Part {
-        bytes: &input[start..end],
-        place: start,
+        bytes: &rest[..length],
+        place,
     })
 }
 

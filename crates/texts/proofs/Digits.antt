@@ -1,10 +1,9 @@
 -- Digits read one by one from the left.
-use Rattle.std.proofs.Common.{◌≡◌, ℕ, ◌+◌, ◌-◌, ◌*◌, ◌^◌, ◌<◌, ◌≤◌, true, false, ◌&&◌, leb, List, [], ◌∷◌, length, get_or, drop, Some, None, sym, ap, ◌∙◌, pow-suc, add-one, arith, rules}
-use Rattle.std.specs.Char.{is_ascii_digit}
+use Rattle.std.proofs.Common.{◌≡◌, ℕ, ◌+◌, ◌-◌, ◌*◌, ◌≤◌, true, ◌&&◌, leb, List, [], ◌∷◌, length, drop, Some, None, sym, ap, ◌∙◌, rules}
 use Rattle.std.specs.Str.{all_ascii_digits}
-use Rattle.std.proofs.lemmas.List.{at_drop_more, at_drop_all}
+use Rattle.std.proofs.lemmas.List.{at_drop_all}
 use Rattle.std.proofs.lemmas.Str.Parse.{IsNumeralModel, numerals_by_fold, numerals_by_weight, tells_all_ascii_digits}
-use Rattle.std.proofs.lemmas.Bool.{le-leb, and_left, and_right, and_from, cond-true, cond-false}
+use Rattle.std.proofs.lemmas.Bool.{le-leb, and_from, cond-true}
 use Rattle.texts.specs.Numbers.{value, is_number, number_of}
 
 -- the number so far, and then the digits that follow
@@ -21,20 +20,6 @@ by_weight = numerals_by_weight _ tells_all_ascii_digits value (search rules)
 -- digits read from the left give their value
 read_value : (ds : List ℕ) → all_ascii_digits ds ≡ true → read_on 0 ds ≡ value ds
 read_value ds h = from_left.same ds (from_left.to ds h) ∙ sym (by_weight.same ds (by_weight.to ds h))
-
-pub digits_stop : (xs : List ℕ) (i : ℕ) → i < length xs → all_ascii_digits (drop i xs) ≡ all_ascii_digits xs → is_ascii_digit (get_or xs i 0) ≡ false → number_of xs ≡ None
-digits_stop xs i h e f =
-    let z : all_ascii_digits xs ≡ false = sym e ∙ at_drop_more all_ascii_digits xs i 0 h ∙ and_left _ _ f in
-    cond-false (is_number xs) (Some (value xs)) None (and_right (leb 1 (length xs)) (leb (length xs) 5 && all_ascii_digits xs) (and_right (leb (length xs) 5) (all_ascii_digits xs) z))
-
-pub digits_next : (xs : List ℕ) (i : ℕ) → i < length xs → is_ascii_digit (get_or xs i 0) ≡ true → all_ascii_digits (drop i xs) ≡ all_ascii_digits (drop (i + 1) xs)
-digits_next xs i h e = at_drop_more all_ascii_digits xs i 0 h ∙ ap (λ t. t && all_ascii_digits (drop (i + 1) xs)) e
-
-pub read_next : (xs : List ℕ) (i n : ℕ) → i < length xs → read_on n (drop i xs) ≡ read_on (10 * n + (get_or xs i 0 - 48)) (drop (i + 1) xs)
-read_next xs i n h = at_drop_more (read_on n) xs i 0 h
-
-pub pow_next : (n d i : ℕ) → n < 10 ^ i → d ≤ 9 → 10 * n + d < 10 ^ (i + 1)
-pow_next n d i h k = rw (add-one, pow-suc) (omega arith)
 
 pub digits_all : (xs : List ℕ) (i n : ℕ) → length xs ≤ i → 1 ≤ length xs → length xs ≤ 5 → all_ascii_digits (drop i xs) ≡ all_ascii_digits xs → read_on n (drop i xs) ≡ read_on 0 xs → Some n ≡ number_of xs
 digits_all xs i n h a b e f =

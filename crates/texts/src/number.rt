@@ -9,7 +9,7 @@ const DIGITS_MAX: usize = 5;
 fn has_digits(count: usize) -> bool
     ensures { Decides result ((1 ≤ count) × (count ≤ 5)) }
 {
-    1 <= count && count <= DIGITS_MAX
+    (1..=DIGITS_MAX).contains(&count)
 }
 
 // The number that 1 to 5 decimal digits write.
@@ -20,12 +20,9 @@ pub fn number(digits: &[u8]) -> Option<u32>
     if !has_digits(digits.len()) {
         return None;
     }
-    let mut n: u32 = 0;
-    for d in digits {
-        if !d.is_ascii_digit() {
-            return None;
-        }
-        n = 10 * n + u32::from(*d - b'0');
+    let mut n = 0;
+    for digit in digits {
+        n = 10 * n + char::from(*digit).to_digit(10)?;
     }
     Some(n)
 }

@@ -49,30 +49,14 @@ pub struct Sheet {
     pub heights: Vec<i32>,
 }
 
-// The number that digits write, negated.
-fn negated(digits: &[u8]) -> Option<i32>
-    ensures { result ≡ below_zero (number_of digits.now) }
-{
-    Some(-(number(digits)? as i32))
-}
-
-// What the bytes after a dash say.
-fn after_dash(rest: &[u8]) -> Option<i32>
-    ensures { result ≡ after_dash rest.now }
-{
-    if rest.is_empty() {
-        return Some(UNREAD);
-    }
-    negated(rest)
-}
-
 // The height that a word says.
 fn height(word: &[u8]) -> Option<i32>
     ensures { result ≡ height_of word.now }
 {
     match word {
         [] => None,
-        [b'-', rest @ ..] => after_dash(rest),
+        [b'-'] => Some(UNREAD),
+        [b'-', digits @ ..] => Some(-(number(digits)? as i32)),
         _ => Some(number(word)? as i32),
     }
 }
@@ -92,14 +76,8 @@ fn read_heights(heap: Global, text: &[u8]) -> Result<Vec<i32>, TextError>
     let mut heights = Vec::new(heap);
     let mut rest = text;
     while let Some((word, after)) = next_word(rest) {
-        match height(word) {
-            Some(height) => heights.push(height)?,
-            None => {
-                return Err(TextError::NoHeight {
-                    position: heights.len(),
-                });
-            }
-        }
+        let position = heights.len();
+        heights.push(height(word).ok_or(TextError::NoHeight { position })?)?;
         rest = after;
     }
     Ok(heights)
@@ -109,12 +87,8 @@ fn read_heights(heap: Global, text: &[u8]) -> Result<Vec<i32>, TextError>
 pub fn parse(heap: Global, text: &[u8]) -> Result<Sheet, TextError>
     ensures { Answers figures (sheet_said (words text.now)) result }
 {
-    let Some((slope, rest)) = take_number(text) else {
-        return Err(TextError::NoSlope);
-    };
-    let Some((slack, rest)) = take_number(rest) else {
-        return Err(TextError::NoSlack);
-    };
+    let (slope, rest) = take_number(text).ok_or(TextError::NoSlope)?;
+    let (slack, rest) = take_number(rest).ok_or(TextError::NoSlack)?;
     Ok(Sheet {
         slope,
         slack,

@@ -9,9 +9,6 @@ use Rattle.surveys.specs.Moments.{outcome, moment, answers_to}
 use Rattle.surveys.specs.Laws.{item_at, Law}
 use Rattle.logs.specs.declared.setting.Setting.{Setting}
 use Rattle.bed.specs.Working.{worked}
-use Rattle.terms.specs.Limits.{touches_max}
-use Rattle.records.specs.Laws.{record_meaning}
-use Rattle.transcripts.specs.Transcripts.{gauge_name, start_tolerance, gauge_of, survey_of}
 
 told_all : (reading : Readings) (s : State) (calls : List Call) (rs : List Answer) → length rs ≡ length calls →
     ((k : ℕ) (c : Call) → item_at calls k ≡ Some c → item_at rs k ≡ Some (outcome reading (moment reading s calls k) c).answer) →
@@ -35,12 +32,3 @@ answers_given m setting calls old new left a b law =
     sym all-answers
     ∙ told_all m.reading s (take (length old) calls) (take (length calls) new) law.each_as_defined.one_answer_each law.each_as_defined.answer
     ∙ ap (answers_to m.reading s) all-calls
-
--- those of the record's survey
-pub record_answers : (b sheet : List ℕ) (name t l : ℕ) (calls : List Call) → b ≡ sheet → name ≡ gauge_name → t ≡ start_tolerance → l ≡ touches_max →
-    answers_to (record_meaning b name).reading (opened (record_meaning b name) t l) calls ≡ answers_to (gauge_of sheet).reading (survey_of sheet) calls
-record_answers b sheet name t l calls e f g h =
-    ap (λ x. answers_to (record_meaning x name).reading (opened (record_meaning x name) t l) calls) e
-    ∙ ap (λ n. answers_to (record_meaning sheet n).reading (opened (record_meaning sheet n) t l) calls) f
-    ∙ ap (λ n. answers_to (gauge_of sheet).reading (opened (gauge_of sheet) n l) calls) g
-    ∙ ap (λ n. answers_to (gauge_of sheet).reading (opened (gauge_of sheet) start_tolerance n) calls) h

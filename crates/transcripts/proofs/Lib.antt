@@ -1,4 +1,3 @@
-pub mod Turns
 pub mod Tellings
 pub mod Given
 pub mod Bounded

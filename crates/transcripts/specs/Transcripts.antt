@@ -48,9 +48,13 @@ input_max = 4096
 abbrev pub gauge_of : List ℕ → Meaning
 gauge_of sheet = record_meaning sheet gauge_name
 
--- the survey at the start
+-- the survey of a gauge at the start
+abbrev pub started : Meaning → State
+started m = opened m start_tolerance touches_max
+
+-- that of the record
 abbrev pub survey_of : List ℕ → State
-survey_of sheet = opened (gauge_of sheet) start_tolerance touches_max
+survey_of sheet = started (gauge_of sheet)
 
 -- an input of more bytes prints the one line `long`
 abbrev pub unless_long : List ℕ → List ℕ → List ℕ

@@ -1,9 +1,9 @@
 // The calls of an input, and the lines printed for their answers.
-ghost use Rattle.std.specs.Prelude.{◌≡◌, ◌≤◌, [], ◌∷◌, ◌++◌, length, IfOk, string_bytes, OnOk};
+ghost use Rattle.std.specs.Prelude.{◌≡◌, ◌≤◌, [], ◌∷◌, ◌++◌, length, drop, IfOk, string_bytes, OnOk};
 ghost use Rattle.surveys.specs.declared.calls.Call.TheVariants.{Ask};
 ghost use Rattle.commands.specs.Orders.{order, orders, call_of};
 ghost use Rattle.transcripts.specs.Entries.{text_of};
-ghost use Rattle.transcripts.specs.Told.{with_call, asked, used, number_told, figures_told, told_text, lines_told};
+ghost use Rattle.transcripts.specs.Told.{with_call, asked, used, told_text, lines_told};
 
 use crate::entry::{Entry, put_entry};
 use commands::command::Command;
@@ -13,21 +13,13 @@ use surveys::answers::Answer;
 use surveys::calls::Call;
 use terms::refusal::Refusal;
 
-// Appends the call, where there is one.
-fn push_call(calls: &mut Vec<Call>, call: Option<Call>) -> Result<(), AllocError>
-    ensures { OnOk result (calls.new.items ≡ calls.old.items ++ with_call call []) }
-{
-    if let Some(call) = call {
-        calls.push(call)?;
-    }
-    Ok(())
-}
-
-// Appends the command's call, and the ask whose answer its line prints.
+// Appends the command's call, if it makes one, and the ask whose answer its line prints.
 fn push_calls(calls: &mut Vec<Call>, command: &Command<'_>) -> Result<(), AllocError>
     ensures { OnOk result (calls.new.items ≡ calls.old.items ++ with_call (call_of (order command.now)) (Ask ∷ [])) }
 {
-    push_call(calls, command.call())?;
+    if let Some(call) = command.call() {
+        calls.push(call)?;
+    }
     calls.push(Call::Ask)?;
     Ok(())
 }
@@ -43,48 +35,18 @@ pub(crate) fn gather_calls(heap: Global, input: &[u8]) -> Result<Vec<Call>, Allo
     Ok(calls)
 }
 
-// How many answers the calls of a command get.
-fn count_answers(command: &Command<'_>) -> usize
-    ensures { result ≡ used (call_of (order command.now)) }
-{
-    match command.call() {
-        Some(_) => 2,
-        None => 1,
-    }
-}
-
-// The result number of a command whose calls got the first of the answers.
-fn number_for(command: &Command<'_>, answers: &[Answer]) -> u8
+// What is printed for a command whose calls got the first of the answers, and the answers after those.
+fn take_entry<'a>(command: &Command<'_>, answers: &'a [Answer]) -> (Entry, &'a [Answer])
     requires { used (call_of (order command.now)) ≤ length answers.now }
-    ensures { result ≡ number_told (call_of (order command.now)) answers.now }
+    ensures text { text_of result.0 ≡ told_text (order command.now) answers.now }
+    ensures left { result.1.now ≡ drop (used (call_of (order command.now))) answers.now }
 {
-    match command.call() {
-        Some(_) => answers[0].number(),
-        None => Refusal::NotACommand.number(),
-    }
-}
-
-// What ask answered after it.
-fn figures_for(command: &Command<'_>, answers: &[Answer]) -> Answer
-    requires { used (call_of (order command.now)) ≤ length answers.now }
-    ensures { result ≡ figures_told (call_of (order command.now)) answers.now }
-{
-    match command.call() {
-        Some(_) => answers[1],
-        None => answers[0],
-    }
-}
-
-// What is printed for it.
-fn entry_for(command: &Command<'_>, answers: &[Answer]) -> Entry
-    requires { used (call_of (order command.now)) ≤ length answers.now }
-    ensures { text_of result ≡ told_text (order command.now) answers.now }
-{
-    Entry::new(
-        command.verb(),
-        number_for(command, answers),
-        figures_for(command, answers),
-    )
+    let (number, told, left) = match (command.call(), answers) {
+        (Some(_), [made, told, left @ ..]) => (made.number(), told, left),
+        (None, [told, left @ ..]) => (Refusal::NotACommand.number(), told, left),
+        _ => unreachable!(),
+    };
+    (Entry::new(command.verb(), number, *told), left)
 }
 
 // The lines printed for an input whose calls got these answers.
@@ -97,10 +59,11 @@ pub(crate) fn print_lines(
     ensures { IfOk result (λ t. string_bytes t ≡ lines_told (orders input.now) answers.now) }
 {
     let mut out = String::new(heap);
-    let mut at = 0;
+    let mut left = answers;
     for command in Script::new(input) {
-        put_entry(&mut out, heap, entry_for(&command, &answers[at..]))?;
-        at += count_answers(&command);
+        let (entry, after) = take_entry(&command, left);
+        put_entry(&mut out, heap, entry)?;
+        left = after;
     }
     Ok(out)
 }

@@ -1,4 +1,4 @@
-ghost use Rattle.std.specs.Prelude.{◌≡◌, true, [], ◌∷◌, ◌++◌, length, is_ok, IfOk, string_bytes, codes, decimal};
+ghost use Rattle.std.specs.Prelude.{◌≡◌, [], ◌∷◌, ◌++◌, length, is_ok, IfOk, string_bytes, codes, decimal};
 ghost use Rattle.terms.specs.Limits.{touches_max};
 ghost use Rattle.terms.specs.Refusals.{number};
 ghost use Rattle.records.specs.Verdict.{record_verdict};
@@ -6,10 +6,11 @@ ghost use Rattle.surveys.specs.Moments.{answers_to};
 ghost use Rattle.commands.specs.Lines.{line_end};
 ghost use Rattle.commands.specs.Orders.{orders};
 ghost use Rattle.transcripts.specs.Talks.{EveryTalkKeepsTheLaw, ReadsEnough, SixWords, WorkedTalk, sheet_read, input_read};
-ghost use Rattle.transcripts.specs.Transcripts.{gauge_name, start_tolerance, gauge_of, survey_of, transcript, printed_for, printed};
+ghost use Rattle.transcripts.specs.Transcripts.{gauge_name, start_tolerance, started, transcript, unless_long, printed};
 
 use crate::lines::{gather_calls, print_lines};
 use bed::work::work_through;
+use gauges::gauge::Gauge;
 use logs::setting::Setting;
 use records::record::{Record, check};
 use std::alloc::{AllocError, Global};
@@ -40,45 +41,44 @@ fn start() -> Setting
     }
 }
 
-// Works through the calls to a survey of the record; the answers fill the buffer.
-fn make_calls(sheet: &[u8], calls: &[Call], answers: &mut [Answer])
-    requires accepted { is_ok (record_verdict sheet.now gauge_name) ≡ true }
-    requires room { length answers.old ≡ length calls.now }
-    ensures { answers.new ≡ answers_to (gauge_of sheet.now).reading (survey_of sheet.now) calls.now }
+// Works through the calls to a survey of the gauge; the answers fill the buffer.
+fn make_calls<G: Gauge + Drop>(gauge: G, calls: &[Call], answers: &mut [Answer])
+    requires { length answers.old ≡ length calls.now }
+    ensures { answers.new ≡ answers_to (G.Gauge.meaning gauge).reading (started (G.Gauge.meaning gauge)) calls.now }
 {
-    let gauge = Record::new(sheet, GAUGE_NAME);
     let _survey = work_through(gauge, start(), calls, answers);
 }
 
 // The answers to the calls.
-fn answer_calls(heap: Global, sheet: &[u8], calls: &[Call]) -> Result<Vec<Answer>, AllocError>
-    requires { is_ok (record_verdict sheet.now gauge_name) ≡ true }
-    ensures { IfOk result (λ v. v.items ≡ answers_to (gauge_of sheet.now).reading (survey_of sheet.now) calls.now) }
+fn answer_calls<G: Gauge + Drop>(
+    heap: Global,
+    gauge: G,
+    calls: &[Call],
+) -> Result<Vec<Answer>, AllocError>
+    ensures { IfOk result (λ v. v.items ≡ answers_to (G.Gauge.meaning gauge).reading (started (G.Gauge.meaning gauge)) calls.now) }
 {
     let mut answers = vec![in heap; BLANK; calls.len()]?;
-    make_calls(sheet, calls, answers.as_mut_slice());
+    make_calls(gauge, calls, answers.as_mut_slice());
     Ok(answers)
 }
 
-// What is printed for an input over an accepted record.
-fn converse(heap: Global, sheet: &[u8], input: &[u8]) -> Result<String, AllocError>
-    requires { is_ok (record_verdict sheet.now gauge_name) ≡ true }
-    ensures { IfOk result (λ t. string_bytes t ≡ transcript (gauge_of sheet.now).reading (survey_of sheet.now) (orders input.now)) }
+// What is printed for an input over the gauge.
+fn converse<G: Gauge + Drop>(heap: Global, gauge: G, input: &[u8]) -> Result<String, AllocError>
+    ensures { IfOk result (λ t. string_bytes t ≡ transcript (G.Gauge.meaning gauge).reading (started (G.Gauge.meaning gauge)) (orders input.now)) }
 {
     let calls = gather_calls(heap, input)?;
-    let answers = answer_calls(heap, sheet, calls.as_slice())?;
+    let answers = answer_calls(heap, gauge, calls.as_slice())?;
     print_lines(heap, input, answers.as_slice())
 }
 
 // The same, where the input may be too long.
-fn reply(heap: Global, sheet: &[u8], input: &[u8]) -> Result<String, AllocError>
-    requires { is_ok (record_verdict sheet.now gauge_name) ≡ true }
-    ensures { IfOk result (λ t. string_bytes t ≡ printed_for sheet.now input.now) }
+fn reply<G: Gauge + Drop>(heap: Global, gauge: G, input: &[u8]) -> Result<String, AllocError>
+    ensures { IfOk result (λ t. string_bytes t ≡ unless_long input.now (transcript (G.Gauge.meaning gauge).reading (started (G.Gauge.meaning gauge)) (orders input.now))) }
 {
     if input.len() > INPUT_MAX {
         return format!(in heap; "long\n");
     }
-    converse(heap, sheet, input)
+    converse(heap, gauge, input)
 }
 
 // What is printed for a refused record.
@@ -132,6 +132,6 @@ pub fn print(heap: Global, sheet: &[u8], input: &[u8]) -> Result<String, AllocEr
 {
     match test_sheet(sheet) {
         Err(refusal) => refuse(heap, refusal),
-        Ok(()) => reply(heap, sheet, input),
+        Ok(()) => reply(heap, Record::new(sheet, GAUGE_NAME), input),
     }
 }

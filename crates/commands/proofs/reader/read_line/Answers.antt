@@ -1,13 +1,16 @@
-use Rattle.std.proofs.Common.{None}
+use Rattle.std.proofs.Common.{None, ◌∙◌}
 use Rattle.commands.specs.Pieces.{piece}
 use Rattle.commands.specs.Orders.{order}
-use Rattle.commands.proofs.Reading.{order_spaced, order_numbered}
+use Rattle.commands.proofs.Reading.{order_alone, order_spaced, order_numbered}
 use Rattle.commands.proofs.reader.read_line.Goals as goal
 
-pub returns-in-None : goal.returns-in-None
-returns-in-None c =
-    order_spaced (piece c.args.line) c.word_length-n.result c.word_length-n.ensures.value c.if-n-line.false (piece c.rest_of-digits.result) None c.rest_of-digits.ensures c.in-None.ensures
+pub returns-in_default : goal.returns-in_default
+returns-in_default c = c.read_alone.ensures ∙ order_alone (piece c.args.line) c.in_default.ensures
 
-pub returns-in-Some : goal.returns-in-Some
-returns-in-Some c =
-    order_numbered (piece c.args.line) c.word_length-n.result c.word_length-n.ensures.value c.if-n-line.false (order c.read_numbered.result) (piece c.first_word.result) (piece c.rest_of-digits.result) c.in-Some.number c.first_word.ensures c.rest_of-digits.ensures c.in-Some.ensures c.read_numbered.ensures
+pub returns-in_default-number : goal.returns-in_default-number
+returns-in_default-number c =
+    order_spaced (piece c.args.line) c.in-Some.n c.in-Some.ensures (piece c.rest_of-digits.result) None c.rest_of-digits.ensures c.in_default-number.ensures.value
+
+pub returns : goal.returns
+returns c =
+    order_numbered (piece c.args.line) c.in-Some.n c.in-Some.ensures (order c.read_numbered.result) (piece c.first_word.result) (piece c.rest_of-digits.result) c.in-Some-number.number c.first_word.ensures c.rest_of-digits.ensures c.in-Some-number.ensures.value c.read_numbered.ensures

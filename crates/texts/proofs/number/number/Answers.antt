@@ -1,26 +1,7 @@
-use Rattle.std.proofs.Common.{◌+◌, ◌*◌, ◌^◌, ◌≤◌, drop, sym, ap, ◌∙◌, arith}
-use native.Mathlib.Nat.{pow-le-pow_right}
-use Rattle.texts.proofs.Digits.{read_on, digits_stop, digits_next, read_next, pow_next, digits_all}
+use Rattle.texts.proofs.Digits.{digits_all}
 use Rattle.texts.proofs.number.number.Goals as goal
 
-pub returns-then-not-is_ascii_digit : goal.returns-then-not-is_ascii_digit
-returns-then-not-is_ascii_digit c = record { value = sym (digits_stop c.args.digits.now c.loop-d.d-index c.loop-d-test.true c.loop-d.invariant.1 (sym c.if-not-is_ascii_digit.ensures.value)); bound = tt }
-
-pub loop-d-preserved : goal.loop-d-preserved
-loop-d-preserved c =
-    let s = c.if-not-is_ascii_digit.ensures in
-    let d : c.from.result ≤ 9 = omega (arith, s.cases) in (
-      ap (λ x. read_on (10 * c.loop-d.n + x) (drop (c.loop-d.d-index + 1) c.args.digits.now)) c.from.ensures ∙ sym (read_next c.args.digits.now c.loop-d.d-index c.loop-d.n c.loop-d-test.true) ∙ c.loop-d.invariant.0,
-      sym (digits_next c.args.digits.now c.loop-d.d-index c.loop-d-test.true (sym s.value)) ∙ c.loop-d.invariant.1,
-      pow_next c.loop-d.n c.from.result c.loop-d.d-index c.loop-d.invariant.2 d,
-    )
-
-pub returns : goal.returns
-returns c =
+pub returns-clause-value : goal.returns-clause-value
+returns-clause-value c =
     let long = c.has_digits.ensures.0 c.if-not-has_digits.false in
-    let few : c.loop-d.d-index ≤ 5 = omega (arith, long.1) in
-    let small : 10 ^ c.loop-d.d-index ≤ 10 ^ 5 = pow-le-pow_right (omega arith) few in
-    record {
-      value = digits_all c.args.digits.now c.loop-d.d-index c.loop-d.n c.loop-d-test.false long.0 long.1 c.loop-d.invariant.1 c.loop-d.invariant.0;
-      bound = omega (arith, c.loop-d.invariant.2);
-    }
+    digits_all c.args.digits.now c.loop-digit.digit-index c.loop-digit.n c.loop-digit-test.false long.0 long.1 c.loop-digit.invariant.1 c.loop-digit.invariant.0

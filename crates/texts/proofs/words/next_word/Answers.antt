@@ -1,24 +1,14 @@
-use Rattle.std.proofs.Common.{◌≡◌, ℕ, ◌-◌, ◌<◌, List, length, take, drop, arith}
-use Rattle.std.proofs.lemmas.Slice.{between_to_end}
-use Rattle.texts.proofs.Runs.{no_word, a_word, shorter}
+use Rattle.std.proofs.Common.{ℕ, List, refl}
+use Rattle.texts.proofs.Runs.{no_word, a_word}
 use Rattle.texts.proofs.words.next_word.Goals as goal
 
-pub returns-then-length-eq0 : goal.returns-then-length-eq0
-returns-then-length-eq0 c =
+pub returns-in_err-from-clause-value : goal.returns-in_err-from-clause-value
+returns-in_err-from-clause-value c =
     let xs : List ℕ = c.args.bytes.now in
-    let s : ℕ = c.count_run.result in
-    let after : take (length xs - s) (drop s xs) ≡ drop s xs = between_to_end xs s (length xs) (omega arith) in
-    record { value = no_word xs s c.count_run-length.result (take (length xs - s) (drop s xs)) after c.count_run.ensures.value c.count_run-length.ensures.value c.if-length-eq0.true; onward = tt }
+    rw c.from_residual.ensures (no_word xs c.in_err-from.ensures)
 
-pub returns : goal.returns
-returns c =
+pub returns-clause-value : goal.returns-clause-value
+returns-clause-value c =
     let xs : List ℕ = c.args.bytes.now in
-    let s : ℕ = c.count_run.result in
-    let n : ℕ = c.count_run-length.result in
-    let from : List ℕ = take (length xs - s) (drop s xs) in
-    let after : from ≡ drop s xs = between_to_end xs s (length xs) (omega arith) in
-    let some : 0 < n = omega (arith, c.if-length-eq0.false) in
-    record {
-      value = a_word xs s n from after c.count_run.ensures.value c.count_run-length.ensures.value some;
-      onward = shorter xs s n from after c.count_run.ensures.value c.count_run-length.ensures.value some c.count_run-length.ensures.within;
-    }
+    let w = a_word xs c.in_ok-from.field-0 c.in_ok-from.ensures c.word_end.result _ c.unwrap_or.result refl c.word_end.ensures c.unwrap_or.ensures in
+    rw (c.split_at.ensures.front, c.split_at.ensures.back) w
