@@ -29,5 +29,5 @@ pub struct Log {
     ghost within: { notes.count ≤ notes.limit },
     ghost room: { notes.limit ≤ touches_max },
     ghost long: { length notes.touches ≡ touches_max },
-    pub ghost sound: { Sound notes.line (take notes.count notes.touches) } by { Prim.hlevel (props, InOrder-prop) },
+    ghost sound: { Sound notes.line (take notes.count notes.touches) } by { Prim.hlevel (props, InOrder-prop) },
 }

@@ -116,11 +116,7 @@ module _ (line : Line) (ts : List Touch) (lo : ℕ) (coming : List Summit) (told
         e ∙ ap (λ n. told ++ span_with lo n o) last ∙ ap (λ m. told ++ m) (ap (span_with lo line.last) (yielded o coming after _ _ told-now (so_far.coming_are ∙ ap (map (summit_of f)) (strip_only h))).0)
         ∙ ap (λ gs. told ++ map (span_of f) gs) (sym (strip_only h)) ∙ so_far.told_are
 
--- Before the first touch there are none; after it they are those from position 0 on.
-pub none_yet : (line : Line) (ts : List Touch) → length ts ≡ 0 → [] ≡ spans line ts
-none_yet line [] e = refl
-none_yet line (a ∷ ts) e = absurd (omega arith)
-
+-- After the first touch they are those from position 0 on.
 pub all_from_0 : (line : Line) (ts : List Touch) → (length ts ≡ 0 → ⊥) → spans_from line ts 0 ts ≡ spans line ts
 all_from_0 line [] some = absurd (some refl)
 all_from_0 line (a ∷ ts) some = refl

@@ -76,7 +76,7 @@ fn spans_of(heap: Global, seen: &Touched<'_>) -> Result<Vec<Span>, AllocError>
     ensures is { IfOk result (λ v. v.items ≡ spans seen.now.line seen.now.touches.now) }
     ensures laws { LawsOfSpans }
 {
-    if seen.touches.len() == 0 {
+    if seen.touches.is_empty() {
         return Ok(Vec::new(heap));
     }
     spans_beside(heap, seen)
