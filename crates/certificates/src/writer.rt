@@ -1,7 +1,7 @@
 ghost use Rattle.std.specs.Prelude.{◌≡◌, ℕ, ◌+◌, ◌*◌, ◌/◌, ◌<◌, ◌≤◌, ◌++◌, length, drop, IfSome, IfOk, Ok, OnOk};
 ghost use Rattle.std.specs.List.{AllByRecursion};
 ghost use Rattle.terms.specs.Limits.{last_max};
-ghost use Rattle.caps.specs.Touches.{Sound, WithinLimits};
+ghost use Rattle.caps.specs.Touches.{WithinLimits};
 ghost use Rattle.caps.specs.Outlooks.{outlook};
 ghost use Rattle.certificates.specs.Layout.{certificate_fields, certificate_with, certificate_size};
 ghost use Rattle.certificates.specs.Theorem.{CertificateBounds};
@@ -15,7 +15,8 @@ use crate::layout::{
     position_at,
 };
 use caps::{Line, Outlook, Touch};
-use envelope::looks::{is_settled, look};
+use envelope::looks::is_settled;
+use envelope::touched::Touched;
 use logs::log::Log;
 use terms::refusal::Refusal;
 
@@ -28,25 +29,21 @@ fn size(count: usize) -> usize
 }
 
 // What the touches tell; their floor lies on the line.
-fn told(line: Line, touches: &[Touch]) -> Option<Outlook>
-    requires { Sound line touches.now }
-    ensures is { result ≡ outlook line touches.now }
-    ensures within { IfSome result (λ o. o.floor.position ≤ line.last) }
+fn told(touched: &Touched<'_>) -> Option<Outlook>
+    ensures is { result ≡ outlook touched.now.line touched.now.touches.now }
+    ensures within { IfSome result (λ o. o.floor.position ≤ touched.now.line.last) }
     ensures bounds { CertificateBounds }
 {
-    look(line, touches)
+    touched.look()
 }
 
 // What the touches of a settled survey tell.
-fn settle(line: Line, tolerance: u16, touches: &[Touch]) -> Result<Outlook, Refusal>
-    requires { Sound line touches.now }
-    ensures is { result ≡ settled_or tolerance (outlook line touches.now) }
-    ensures within { IfOk result (λ o. o.floor.position ≤ line.last) }
+fn settle(touched: &Touched<'_>, tolerance: u16) -> Result<Outlook, Refusal>
+    ensures is { result ≡ settled_or tolerance (outlook touched.now.line touched.now.touches.now) }
+    ensures within { IfOk result (λ o. o.floor.position ≤ touched.now.line.last) }
     ensures bounds { CertificateBounds }
 {
-    let Some(seen) = told(line, touches) else {
-        return Err(Refusal::NothingTouched);
-    };
+    let seen = told(touched).ok_or(Refusal::NothingTouched)?;
     if is_settled(Some(seen), tolerance) {
         Ok(seen)
     } else {
@@ -68,20 +65,14 @@ fn with_room(seen: Outlook, size: usize, room: usize) -> Result<Outlook, Refusal
 }
 
 // The same, where the buffer has room for the certificate.
-fn settled_with_room(
-    line: Line,
-    tolerance: u16,
-    touches: &[Touch],
-    room: usize,
-) -> Result<Outlook, Refusal>
-    requires { Sound line touches.now }
-    ensures is { result ≡ certified line tolerance touches.now room }
-    ensures within { IfOk result (λ o. o.floor.position ≤ line.last) }
-    ensures enough { OnOk result (certificate_size (length touches.now) ≤ room) }
+fn settled_with_room(touched: &Touched<'_>, tolerance: u16, room: usize) -> Result<Outlook, Refusal>
+    ensures is { result ≡ certified touched.now.line tolerance touched.now.touches.now room }
+    ensures within { IfOk result (λ o. o.floor.position ≤ touched.now.line.last) }
+    ensures enough { OnOk result (certificate_size (length touched.now.touches.now) ≤ room) }
     ensures bounds { CertificateBounds }
 {
-    let seen = settle(line, tolerance, touches)?;
-    with_room(seen, size(touches.len()), room)
+    let seen = settle(touched, tolerance)?;
+    with_room(seen, size(touched.touches.len()), room)
 }
 
 // Writes the ceiling.
@@ -130,25 +121,24 @@ fn write_touches(buf: &mut [u8], touches: &[Touch])
 }
 
 // Writes the certificate to the front of a buffer that has room for it.
-fn write_fields(buf: &mut [u8], line: Line, tolerance: u16, touches: &[Touch], seen: Outlook)
-    requires sound { (Sound line touches.now) × (seen.floor.position ≤ line.last) }
-    requires room { certificate_size (length touches.now) ≤ length buf.old }
-    ensures { buf.new ≡ certificate_with line tolerance touches.now seen ++ drop (certificate_size (length touches.now)) buf.old }
+fn write_fields(buf: &mut [u8], touched: &Touched<'_>, tolerance: u16, seen: Outlook)
+    requires floor { seen.floor.position ≤ touched.now.line.last }
+    requires room { certificate_size (length touched.now.touches.now) ≤ length buf.old }
+    ensures { buf.new ≡ certificate_with touched.now.line tolerance touched.now.touches.now seen ++ drop (certificate_size (length touched.now.touches.now)) buf.old }
 {
-    write_head(buf, line, tolerance, touches.len(), seen);
-    write_touches(buf, touches);
+    write_head(buf, touched.line, tolerance, touched.touches.len(), seen);
+    write_touches(buf, touched.touches);
 }
 
 // Writes the certificate of these touches, unless it is refused.
-fn write(buf: &mut [u8], line: Line, tolerance: u16, touches: &[Touch]) -> Result<usize, Refusal>
-    requires { Sound line touches.now }
-    ensures answer { result ≡ certificate_verdict line tolerance touches.now (length buf.old) }
-    ensures bytes { buf.new ≡ certificate_leaves line tolerance touches.now buf.old }
+fn write(buf: &mut [u8], touched: &Touched<'_>, tolerance: u16) -> Result<usize, Refusal>
+    ensures answer { result ≡ certificate_verdict touched.now.line tolerance touched.now.touches.now (length buf.old) }
+    ensures bytes { buf.new ≡ certificate_leaves touched.now.line tolerance touched.now.touches.now buf.old }
     ensures bounds { CertificateBounds }
 {
-    let seen = settled_with_room(line, tolerance, touches, buf.len())?;
-    write_fields(buf, line, tolerance, touches, seen);
-    Ok(size(touches.len()))
+    let seen = settled_with_room(touched, tolerance, buf.len())?;
+    write_fields(buf, touched, tolerance, seen);
+    Ok(size(touched.touches.len()))
 }
 
 // Writes the certificate of a settled survey to the front of `buf` and answers how many bytes it has; a refusal leaves `buf` as it was.
@@ -157,5 +147,5 @@ pub fn certify(log: &Log, buf: &mut [u8]) -> Result<usize, Refusal>
     ensures bytes { buf.new ≡ left_by_survey (state_of log.now) buf.old }
     ensures bounds { CertificateBounds }
 {
-    write(buf, log.notes.line, log.notes.tolerance, log.touched())
+    write(buf, &log.view(), log.notes.tolerance)
 }

@@ -1,11 +1,11 @@
 // Touches on a line: floor, ceiling, settled and the places to touch.
 use crate::case::{Case, Met};
 use crate::views::{line_of, touch_of};
-use caps::sound::are_touches;
 use caps::{Line, Outlook, Summit, Touch};
 use draws::chance::Chance;
 use draws::sheets::{Shape, draw_sheet};
-use envelope::looks::{is_settled, look, lowest_open};
+use envelope::looks::is_settled;
+use envelope::touched::Touched;
 use naive::envelope::Place;
 use naive::records::Sheet;
 use naive::terms::MARK;
@@ -64,11 +64,11 @@ pub fn do_looks_agree(
     touches: &[Touch],
     tolerance: u16,
 ) -> Result<bool, AllocError> {
-    if !are_touches(line, touches) {
+    let Some(touched) = Touched::new(line, touches) else {
         return Ok(false);
-    }
-    let outlook = look(line, touches);
-    let open = lowest_open(line, touches, tolerance);
+    };
+    let outlook = touched.look();
+    let open = touched.lowest_open(tolerance);
     let others = naive_touches(heap, touches)?;
     let bound = i64::from(tolerance);
     let naive_line = line_of(line);

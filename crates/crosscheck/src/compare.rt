@@ -1,9 +1,9 @@
 // One table by the pass and by the naive way.
 use crate::naive;
 use crate::naive::{Place, View};
-use caps::sound::are_touches;
 use caps::{Line, Outlook, Summit, Touch};
-use envelope::looks::{is_settled, look, lowest_open};
+use envelope::looks::is_settled;
+use envelope::touched::Touched;
 
 fn place_of(summit: Option<Summit>) -> Option<Place> {
     match summit {
@@ -36,12 +36,12 @@ fn naive_settled(view: Option<View>, tolerance: u16) -> bool {
 
 // Whether the touches pass the test, and floor, ceiling, settled and both places agree.
 pub fn do_agree(line: Line, touches: &[Touch], tolerance: u16) -> bool {
-    if !are_touches(line, touches) {
+    let Some(touched) = Touched::new(line, touches) else {
         return false;
-    }
-    let outlook = look(line, touches);
+    };
+    let outlook = touched.look();
     let view = naive::seen_by_all(line, touches);
-    let open = lowest_open(line, touches, tolerance);
+    let open = touched.lowest_open(tolerance);
     view_of(outlook) == view
         && is_settled(outlook, tolerance) == naive_settled(view, tolerance)
         && place_of(open) == naive::lowest_open(line, touches, tolerance)

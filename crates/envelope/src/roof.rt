@@ -26,7 +26,7 @@ pub(crate) fn lower_rise(left: i32, slope: u16, touch: Touch) -> i32
     left.min(i32::from(touch.height) - climb(slope, touch.position))
 }
 
-// The lower of the right extreme so far and the line that falls to one more touch.
+// The lower of the right extreme so far and the line that falls to one more touch. Not one with the function above: a sign would have to be passed, and says less than the two names.
 pub(crate) fn lower_fall(right: i32, slope: u16, touch: Touch) -> i32
     requires { (slope ≤ slope_max) × (touch.position ≤ last_max) }
     ensures { result ≡ int_min right (fall slope touch) }

@@ -1,6 +1,6 @@
 -- The places that the code aims at are those of the definitions, and they are free.
-use Rattle.std.proofs.Common.{◌≡◌, ℕ, Bool, true, false, not, List, [], ◌∷◌, is_some, Some, None, Option, sym, refl, ap, ◌∙◌, subst, arith}
-use Rattle.std.proofs.lemmas.Bool.{cond-false, both_ways}
+use Rattle.std.proofs.Common.{◌≡◌, ℕ, ◌<◌, Bool, true, false, not, List, [], ◌∷◌, length, is_some, Some, None, Option, sym, refl, ap, ◌∙◌, subst, arith}
+use Rattle.std.proofs.lemmas.Bool.{cond-true, cond-false, both_ways}
 use Rattle.caps.specs.declared.Touch.{Touch}
 use Rattle.caps.specs.declared.Line.{Line}
 use Rattle.caps.specs.declared.Summit.{Summit}
@@ -38,7 +38,25 @@ open_unsettled line (a ∷ ts) tolerance u on e =
     let some = has_some (summit_of (cap line (a ∷ ts))) (lowest_open line (a ∷ ts) tolerance) u e in
     (from_not (is_settled line (a ∷ ts) tolerance) (sym some ∙ laws_of_gaps.open_exactly_when_unsettled line a ts tolerance on), ap place_of e)
 
+has_none : (f : Stretch → Summit) (o : Option Stretch) → None ≡ mapped f o → is_some o ≡ false
+has_none f None e = refl
+has_none f (Some g) e = let z : ◌≡◌ {A = ℕ} 0 1 = cc in absurd (omega arith)
+
+to_true : (b : Bool) → false ≡ not b → b ≡ true
+to_true true e = refl
+to_true false e = absurd (both_ways true (sym e) refl)
+
+-- Where something is touched and no gap is open, the line is settled.
+closed_settled : (line : Line) (ts : List Touch) (tolerance : ℕ) → OnLine line ts → 0 < length ts → None ≡ open_summit line ts tolerance → is_settled line ts tolerance ≡ true
+closed_settled line [] tolerance on some e = absurd (omega arith)
+closed_settled line (a ∷ ts) tolerance on some e =
+    let none = has_none (summit_of (cap line (a ∷ ts))) (lowest_open line (a ∷ ts) tolerance) e in
+    to_true (is_settled line (a ∷ ts) tolerance) (sym none ∙ laws_of_gaps.open_exactly_when_unsettled line a ts tolerance on)
+
 module _ (s : State) (on : OnLine s.line s.touches) where
+  pub left_closed : 0 < length s.touches → None ≡ open_summit s.line s.touches s.tolerance → None ≡ left_aim s
+  left_closed some e = sym (cond-true _ _ _ (closed_settled s.line s.touches s.tolerance on some e))
+
   pub high_open : settled s ≡ false → (p : ℕ) → p ≡ place_seen (standing s) → (Some p ≡ high_aim s) × Free s p
   high_open e p q =
       let is : p ≡ high_place s.line s.touches = q ∙ seen_place s.line s.touches in

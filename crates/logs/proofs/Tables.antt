@@ -1,35 +1,25 @@
 -- A log's touches are sound, and stay so with one more.
-use Rattle.std.proofs.Common.{◌≡◌, ℕ, ◌+◌, ◌<◌, ◌≤◌, false, ◌≢◌, List, length, take, drop, sym, ap, ◌∙◌, subst, arith}
+use Rattle.std.proofs.Common.{◌≡◌, ℕ, ◌+◌, ◌<◌, Bool, true, false, cond, ◌||◌, ◌==◌, ◌≢◌, List, [], ◌∷◌, length, take, drop, sym, refl, ap, ◌∙◌, subst, arith}
 use Rattle.std.proofs.lemmas.List.{length-take-le, take_at}
 use Rattle.std.proofs.lemmas.Bool.{eqb-false}
-use Rattle.terms.specs.Limits.{last_max, slope_max, slack_max}
+use Rattle.std.specs.List.{list_any}
 use Rattle.terms.specs.Meaning.{Height}
 use Rattle.caps.specs.declared.Touch.{Touch}
 use Rattle.caps.specs.declared.Line.{Line}
-use Rattle.caps.specs.Touches.{OnLine, Sound, insert}
+use Rattle.caps.specs.Touches.{Sound, insert, is_touched}
 use Rattle.caps.proofs.Highest.{false_untouched}
 use Rattle.caps.proofs.Inserts.{insert_in, insert_on_line}
 use Rattle.surveys.specs.States.{State, add, full}
 use Rattle.surveys.proofs.Later.{length-insert}
 use Rattle.logs.specs.declared.log.Log.{Log}
 use Rattle.logs.specs.declared.log.Notes.{Notes}
-use Rattle.logs.specs.Places.{Rises, Near, Low}
 use Rattle.logs.specs.Logs.{state_of, PutIn, Free}
-use Rattle.logs.proofs.Places.{rising_from, rises_from, within_from, near_from, heights_from, low_from}
 
 abbrev touches_of : Log → List Touch
 touches_of l = (state_of l).touches
 
 pub count_is : (l : Log) → length (state_of l).touches ≡ l.notes.count
 count_is l = let w = l.within in let r = l.room in let n = l.long in length-take-le l.notes.count l.notes.touches (omega arith)
-
-pub log_sound : (l : Log) → Sound l.notes.line (state_of l).touches
-log_sound l = record {
-  limits = record { last_low = l.lasts.0; last_high = l.lasts.1; slope_low = l.slopes.0; slope_high = l.slopes.1; slack_high = l.slacks };
-  on_line = record { within = within_from l.notes.line.last (touches_of l) l.near; rising = rising_from (touches_of l) l.rises };
-  heights = heights_from (touches_of l) l.low;
-  few = let w = l.within in let r = l.room in omega (arith, count_is l);
-}
 
 pub count_below : (l : Log) → full (state_of l) ≡ false → l.notes.count < l.notes.limit
 count_below l room =
@@ -54,26 +44,26 @@ module _ (l : Log) (u : Touch) (n : Notes) (put : PutIn u l.notes n) where
       ∙ ap (λ k. made l.notes.line l.notes.tolerance k (take n.count n.touches)) put.limit
       ∙ ap (made l.notes.line l.notes.tolerance l.notes.limit) touches_then
 
-  pub last_then : (1 ≤ n.line.last) × (n.line.last ≤ last_max)
-  last_then = subst (λ (line : Line). (1 ≤ line.last) × (line.last ≤ last_max)) (sym put.line) l.lasts
+  module _ (room : full (state_of l) ≡ false) (free : Free (state_of l) u.position) (height : Height u.height) where
+    abbrev ts : List Touch
+    ts = (state_of l).touches
 
-  pub slope_then : (1 ≤ n.line.slope) × (n.line.slope ≤ slope_max)
-  slope_then = subst (λ (line : Line). (1 ≤ line.slope) × (line.slope ≤ slope_max)) (sym put.line) l.slopes
+    sound_with : Sound l.notes.line (insert u ts)
+    sound_with = record {
+      limits = l.sound.limits;
+      on_line = insert_on_line l.notes.line u ts l.sound.on_line free.within (false_untouched ts u.position free.untouched);
+      heights = insert_in (λ t. Height t.height) u ts height l.sound.heights;
+      few = let r = l.room in omega (arith, length-insert u ts, count_is l, count_below l room);
+    }
 
-  pub slack_then : n.line.slack ≤ slack_max
-  slack_then = subst (λ (line : Line). line.slack ≤ slack_max) (sym put.line) l.slacks
+    pub sound_then : Sound n.line (take n.count n.touches)
+    sound_then = subst (λ (line : Line). Sound line (take n.count n.touches)) (sym put.line) (subst (Sound l.notes.line) (sym touches_then) sound_with)
 
-  module _ (free : Free (state_of l) u.position) (height : Height u.height) where
-    on_line_then : OnLine l.notes.line (insert u (state_of l).touches)
-    on_line_then = insert_on_line l.notes.line u (state_of l).touches (log_sound l).on_line free.within (false_untouched (state_of l).touches u.position free.untouched)
+-- Whether p is touched is whether some touch lies there.
+or_is : (a b : Bool) → cond a true b ≡ (a || b)
+or_is true b = refl
+or_is false b = refl
 
-    pub rises_then : Rises (take n.count n.touches)
-    rises_then = subst Rises (sym touches_then) (rises_from (insert u (state_of l).touches) on_line_then.rising)
-
-    pub near_then : Near n.line.last (take n.count n.touches)
-    near_then =
-        subst (λ (line : Line). Near line.last (take n.count n.touches)) (sym put.line)
-        (subst (Near l.notes.line.last) (sym touches_then) (near_from l.notes.line.last (insert u (state_of l).touches) on_line_then.within))
-
-    pub low_then : Low (take n.count n.touches)
-    low_then = subst Low (sym touches_then) (low_from (insert u (state_of l).touches) (insert_in (λ t. Height t.height) u (state_of l).touches height (log_sound l).heights))
+pub touched_any : (p : ℕ) (ts : List Touch) → is_touched ts p ≡ list_any (λ t. t.position == p) ts
+touched_any p [] = refl
+touched_any p (t ∷ ts) = or_is (t.position == p) (is_touched ts p) ∙ ap (λ b. (t.position == p) || b) (touched_any p ts)

@@ -1,6 +1,8 @@
 ghost use Rattle.std.specs.Prelude.{◌≡◌, ◌≤◌, length, take};
-ghost use Rattle.terms.specs.Limits.{last_max, slope_max, slack_max, touches_max};
-ghost use Rattle.logs.specs.Places.{Rises, Near, Low};
+ghost use Rattle.std.proofs.Props.{props};
+ghost use Rattle.terms.specs.Limits.{touches_max};
+ghost use Rattle.caps.specs.Touches.{Sound};
+ghost use Rattle.caps.specs.Props.{InOrder-prop};
 
 use caps::sound::PLACES;
 use caps::{Line, Touch};
@@ -27,10 +29,5 @@ pub struct Log {
     ghost within: { notes.count ≤ notes.limit },
     ghost room: { notes.limit ≤ touches_max },
     ghost long: { length notes.touches ≡ touches_max },
-    ghost lasts: { (1 ≤ notes.line.last) × (notes.line.last ≤ last_max) },
-    ghost slopes: { (1 ≤ notes.line.slope) × (notes.line.slope ≤ slope_max) },
-    ghost slacks: { notes.line.slack ≤ slack_max },
-    ghost rises: { Rises (take notes.count notes.touches) },
-    ghost near: { Near notes.line.last (take notes.count notes.touches) },
-    ghost low: { Low (take notes.count notes.touches) },
+    ghost sound: { Sound notes.line (take notes.count notes.touches) } by { Prim.hlevel (props, InOrder-prop) },
 }

@@ -1,9 +1,8 @@
 -- What a walk over the touches has told so far.
-use Rattle.std.proofs.Common.{◌≡◌, ℕ, ◌+◌, ◌-◌, ◌<◌, ◌≤◌, List, [], ◌∷◌, ◌++◌, map, length, get_or, drop, ℤ, Some, None, Option, sym, refl, ap, ◌∙◌, subst, append_assoc, append-nil, arith}
+use Rattle.std.proofs.Common.{◌≡◌, ℕ, ◌+◌, ◌-◌, ◌<◌, ◌≤◌, List, [], ◌∷◌, ◌++◌, map, length, get_or, drop, ℤ, Some, None, Option, MatchOption, sym, refl, ap, ◌∙◌, subst, append_assoc, append-nil, arith}
 use Rattle.std.proofs.lemmas.List.{drop_more, drop_all}
 use Rattle.std.proofs.lemmas.Bool.Decides.{nat_tests}
 use Rattle.std.proofs.lemmas.Bool.{cond-true, cond-false, lt-ltb, le-ltb, le-leb, lt-leb}
-use Rattle.pick.specs.Picks.{head, tail}
 use Rattle.caps.specs.declared.Touch.{Touch}
 use Rattle.caps.specs.declared.Line.{Line}
 use Rattle.caps.specs.declared.Summit.{Summit}
@@ -11,7 +10,8 @@ use Rattle.caps.specs.Stretches.{Stretch, summit_of}
 use Rattle.caps.specs.Caps.{cap}
 use Rattle.caps.specs.Gaps.{gaps_from}
 use Rattle.envelope.specs.declared.gaps.Gaps.{Gaps}
-use Rattle.envelope.specs.Walks.{summits_from, Walking}
+use Rattle.envelope.specs.Walks.{summits_from}
+use Rattle.envelope.specs.Rest.{rest as coming_of}
 use Rattle.stretches.specs.declared.spans.Span.{Span}
 use Rattle.stretches.specs.Spans.{span_of, spans, spans_from, span_with, end_before, strip_end}
 
@@ -20,14 +20,14 @@ pub record Told (line : Line) (ts : List Touch) (lo : ℕ) (rs : List Touch) (co
   pub coming_are : coming ≡ summits_from line ts lo rs
   pub told_are : told ++ spans_from line ts lo rs ≡ spans_from line ts 0 ts
 
--- The same of the walk that the summits come from.
-abbrev pub Telling : Line → List Touch → ℕ → List Touch → Gaps → List Span → Type 0
-Telling line ts lo rs g told =
-    Walking g.line g.touches.now g.falls.now g.at g.from g.left ×
-    Told line ts lo rs (summits_from g.line g.touches.now g.from (drop g.at g.touches.now)) told
+pub told_same : (line : Line) (ts : List Touch) (lo : ℕ) (rs : List Touch) (g h : Gaps) (told more : List Span) → g ≡ h → told ≡ more → Told line ts lo rs (coming_of h) more → Told line ts lo rs (coming_of g) told
+told_same line ts lo rs g h told more e k t = subst (λ x. Told line ts lo rs (coming_of x) told) (sym e) (subst (Told line ts lo rs (coming_of h)) (sym k) t)
 
-pub telling_same : (line : Line) (ts : List Touch) (lo : ℕ) (rs : List Touch) (g h : Gaps) (told more : List Span) → g ≡ h → told ≡ more → Telling line ts lo rs h more → Telling line ts lo rs g told
-telling_same line ts lo rs g h told more e k t = subst (λ x. Telling line ts lo rs x told) (sym e) (subst (Telling line ts lo rs h) (sym k) t)
+-- The first of the summits to come is told, and the others are left.
+yielded : (o : Option Summit) (coming after : List Summit) (x : Summit) (others : List Summit) → MatchOption o ((coming ≡ []) × (after ≡ [])) (λ s. coming ≡ s ∷ after) →
+    coming ≡ x ∷ others → (o ≡ Some x) × (after ≡ others)
+yielded None coming after x others y e = let none = y.0 in let z : ◌≡◌ {A = ℕ} 0 1 = cc in absurd (omega arith)
+yielded (Some s) coming after x others y e = (cc, cc)
 
 -- What the end of a gap, or that there is none, says of where it begins.
 pub ends_before : (lo p to : ℕ) → Some to ≡ end_before lo p → (lo < p) × (to ≡ p - 1)
@@ -78,16 +78,17 @@ module _ (line : Line) (ts : List Touch) (lo : ℕ) (coming : List Summit) (told
           told_are = ap (λ gs. told ++ map (span_of f) gs) (sym (no_gap h)) ∙ so_far.told_are;
         }
 
-    pub took : (to : ℕ) → Some to ≡ end_before lo t.position → (o : Option Summit) → o ≡ head coming → (after : List Summit) → after ≡ tail coming → (more : List Span) →
+    pub took : (to : ℕ) → Some to ≡ end_before lo t.position → (o : Option Summit) (after : List Summit) → MatchOption o ((coming ≡ []) × (after ≡ [])) (λ s. coming ≡ s ∷ after) → (more : List Span) →
         more ≡ told ++ span_with lo to o → Told line ts (t.position + 1) rest after more
-    took to ends o first after later more e =
+    took to ends o after told-now more e =
         let h : lo < t.position = (ends_before lo t.position to ends).0 in
         let last : to ≡ t.position - 1 = (ends_before lo t.position to ends).1 in
         let are : coming ≡ summit_of f gap ∷ summits_from line ts (t.position + 1) rest = so_far.coming_are ∙ ap (map (summit_of f)) (gap_first h) in
+        let y = yielded o coming after _ _ told-now are in
         record {
-          coming_are = later ∙ ap tail are;
+          coming_are = y.1;
           told_are = ap (λ m. m ++ spans_from line ts (t.position + 1) rest) (e ∙ ap (λ n. told ++ span_with lo n o) last)
-              ∙ joined told (span_with lo (t.position - 1) o) (span_of f gap) _ _ (ap (span_with lo (t.position - 1)) (first ∙ ap head are))
+              ∙ joined told (span_with lo (t.position - 1) o) (span_of f gap) _ _ (ap (span_with lo (t.position - 1)) y.0)
               (ap (λ gs. told ++ map (span_of f) gs) (sym (gap_first h)) ∙ so_far.told_are);
         }
 
@@ -107,19 +108,15 @@ module _ (line : Line) (ts : List Touch) (lo : ℕ) (coming : List Summit) (told
         let h : line.last < lo = no_strip_left lo line.last none in
         sym (append-nil told) ∙ ap (λ gs. told ++ map (span_of f) gs) (sym (no_strip h)) ∙ so_far.told_are
 
-    pub ended_by_strip : (to : ℕ) → Some to ≡ strip_end lo line.last → (o : Option Summit) → o ≡ head coming → (more : List Span) → more ≡ told ++ span_with lo to o →
+    pub ended_by_strip : (to : ℕ) → Some to ≡ strip_end lo line.last → (o : Option Summit) (after : List Summit) → MatchOption o ((coming ≡ []) × (after ≡ [])) (λ s. coming ≡ s ∷ after) → (more : List Span) → more ≡ told ++ span_with lo to o →
         more ≡ spans_from line ts 0 ts
-    ended_by_strip to ends o first more e =
+    ended_by_strip to ends o after told-now more e =
         let h : lo ≤ line.last = (ends_strip lo line.last to ends).0 in
         let last : to ≡ line.last = (ends_strip lo line.last to ends).1 in
-        e ∙ ap (λ n. told ++ span_with lo n o) last ∙ ap (λ m. told ++ m) (ap (span_with lo line.last) (first ∙ ap head (so_far.coming_are ∙ ap (map (summit_of f)) (strip_only h))))
+        e ∙ ap (λ n. told ++ span_with lo n o) last ∙ ap (λ m. told ++ m) (ap (span_with lo line.last) (yielded o coming after _ _ told-now (so_far.coming_are ∙ ap (map (summit_of f)) (strip_only h))).0)
         ∙ ap (λ gs. told ++ map (span_of f) gs) (sym (strip_only h)) ∙ so_far.told_are
 
--- Before the first touch there are none; after it they are those from position 0 on.
-pub none_yet : (line : Line) (ts : List Touch) → length ts ≡ 0 → [] ≡ spans line ts
-none_yet line [] e = refl
-none_yet line (a ∷ ts) e = absurd (omega arith)
-
+-- After the first touch they are those from position 0 on.
 pub all_from_0 : (line : Line) (ts : List Touch) → (length ts ≡ 0 → ⊥) → spans_from line ts 0 ts ≡ spans line ts
 all_from_0 line [] some = absurd (some refl)
 all_from_0 line (a ∷ ts) some = refl

@@ -11,18 +11,13 @@ use crate::setting::Setting;
 use caps::sound::PLACES;
 use caps::table::insert_touch;
 use caps::{Line, Outlook, Touch};
-use envelope::looks::look;
+use envelope::touched::Touched;
 
 // Whether a touch stands at the position.
 fn has_touch(touches: &[Touch], position: u16) -> bool
     ensures { result ≡ is_touched touches.now position }
 {
-    for touch in touches {
-        if touch.position == position {
-            return true;
-        }
-    }
-    false
+    touches.iter().any(|touch| touch.position == position)
 }
 
 impl Notes {
@@ -64,6 +59,17 @@ impl Log {
         &table[0..usize::from(self.notes.count)]
     }
 
+    // The line and its touches, as what tells of the heights.
+    pub fn view(&self) -> Touched<'_>
+        ensures line { result.line ≡ self.now.notes.line }
+        ensures touches { result.touches.now ≡ (state_of self.now).touches }
+    {
+        Touched {
+            line: self.notes.line,
+            touches: self.front(),
+        }
+    }
+
     // The touches, in rising order of position.
     pub fn touched(&self) -> &[Touch]
         ensures items { result.now ≡ (state_of self.now).touches }
@@ -77,7 +83,7 @@ impl Log {
     pub fn look(&self) -> Option<Outlook>
         ensures { result ≡ standing (state_of self.now) }
     {
-        look(self.notes.line, self.touched())
+        self.view().look()
     }
 
     // The number of touches.

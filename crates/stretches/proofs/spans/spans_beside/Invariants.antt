@@ -1,6 +1,7 @@
 use Rattle.std.proofs.Common.{drop, vec_items}
-use Rattle.stretches.proofs.Walked.{Telling}
+use Rattle.envelope.specs.Rest.{rest}
+use Rattle.stretches.proofs.Walked.{Told}
 use Rattle.stretches.proofs.spans.spans_beside.Given as goal
 
 abbrev pub invariant-loop-touch : goal.invariant-loop-touch
-invariant-loop-touch l = Telling l.line l.touches l.from (drop l.touch-index l.touches) l.gaps (vec_items l.spans)
+invariant-loop-touch l = Told l.seen.line l.seen.touches.now l.from (drop l.touch-index l.seen.touches.now) (rest l.gaps) (vec_items l.spans)

@@ -1,5 +1,5 @@
 use Rattle.std.proofs.Common.{◌∙◌, arith}
-use Rattle.logs.proofs.Tables.{count_below, state_then, last_then, slope_then, slack_then, rises_then, near_then, low_then}
+use Rattle.logs.proofs.Tables.{count_below, state_then, sound_then}
 use Rattle.logs.proofs.log.Log.insert.Goals as goal
 
 pub invariant_of-self : goal.invariant_of-self
@@ -14,12 +14,7 @@ invariant_of-self c =
       within = omega (arith, put.count, put.limit);
       room = omega (arith, put.limit);
       long = put.long ∙ l.long;
-      lasts = last_then l u n put;
-      slopes = slope_then l u n put;
-      slacks = slack_then l u n put;
-      rises = rises_then l u n put c.requires.free c.requires.height;
-      near = near_then l u n put c.requires.free c.requires.height;
-      low = low_then l u n put c.requires.free c.requires.height;
+      sound = sound_then l u n put c.requires.room c.requires.free c.requires.height;
     }
 
 pub returns : goal.returns

@@ -1,15 +1,13 @@
-use Rattle.std.proofs.Common.{sym, refl, ◌∙◌, arith}
-use Rattle.logs.proofs.Places.{touched_here, touched_after, touched_no_more}
+use Rattle.std.proofs.Common.{◌==◌, rules, sym, ◌∙◌}
+use borrow.Author.Tests.{tests}
+use Rattle.std.proofs.lemmas.Iterator.{YieldsList-from_slice}
+use Rattle.std.proofs.lemmas.Iterator.Search.{any_from_yields_List}
+use Rattle.caps.specs.declared.Touch.{Touch}
+use Rattle.logs.proofs.Tables.{touched_any}
 use Rattle.logs.proofs.log.table.has_touch.Goals as goal
 
-pub loop-touch-init : goal.loop-touch-init
-loop-touch-init c = refl
-
-pub loop-touch-preserved : goal.loop-touch-preserved
-loop-touch-preserved c = c.loop-touch.invariant ∙ touched_after c.args.position c.args.touches.now c.loop-touch.touch-index (omega arith) c.if-touch-position.false
-
-pub returns-then-touch-position : goal.returns-then-touch-position
-returns-then-touch-position c = sym (c.loop-touch.invariant ∙ touched_here c.args.position c.args.touches.now c.loop-touch.touch-index (omega arith) c.if-touch-position.true)
-
 pub returns : goal.returns
-returns c = sym (c.loop-touch.invariant ∙ touched_no_more c.args.position c.args.touches.now c.loop-touch.touch-index c.loop-touch-test.false)
+returns c =
+    let p = c.args.position in
+    let ts = c.args.touches.now in
+    any_from_yields_List (λ (t : Touch). t.position == p) _ _ c.any.result c.any.ensures.ran (YieldsList-from_slice ts cc) (λ x b q k. search (rules, tests)) ∙ sym (touched_any p ts)
