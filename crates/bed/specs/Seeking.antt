@@ -21,6 +21,11 @@ abbrev pub sought : Readings → State → Option ℕ → Outcome (Result Touch 
 sought reading s None = refused s AlreadySettled
 sought reading s (Some p) = cond (full s) (refused s LimitReached) (touch_at reading s p)
 
+-- where a touch is made that is aimed there, or the first stop that holds before it
+abbrev pub place_at : State → Option ℕ → Result ℕ Stop
+place_at s None = Err stop.Settled
+place_at s (Some p) = cond (full s) (Err stop.LimitReached) (Ok p)
+
 -- where a run touches next, or the first stop that holds before that touch
 abbrev pub next_from : State → ℕ → ℕ → Option ℕ → Result ℕ Stop
 next_from s made budget None = Err stop.Settled

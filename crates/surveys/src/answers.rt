@@ -1,5 +1,6 @@
 ghost use Rattle.std.specs.Prelude.{◌≡◌};
-ghost use Rattle.surveys.specs.Numbers.{stop_number, answer_number};
+ghost use Rattle.surveys.specs.Numbers.{refusal_of, stop_number, answer_number};
+ghost use Rattle.surveys.specs.declared.answers.Stop.TheVariants.{GaugeFault};
 
 use caps::Touch;
 use terms::fault::Fault;
@@ -48,17 +49,33 @@ pub enum Answer {
     Told(Result<Report, Refusal>),
 }
 
+impl From<Fault> for Stop {
+    ghost from_gives = { λ f s. s ≡ GaugeFault f };
+
+    fn from(fault: Fault) -> Stop {
+        Stop::GaugeFault(fault)
+    }
+}
+
+impl From<Stop> for Refusal {
+    ghost from_gives = { λ s r. r ≡ refusal_of s };
+
+    fn from(stop: Stop) -> Refusal {
+        match stop {
+            Stop::Settled => Refusal::AlreadySettled,
+            Stop::LimitReached => Refusal::LimitReached,
+            Stop::BudgetSpent => Refusal::BudgetSpent,
+            Stop::GaugeFault(fault) => Refusal::GaugeFault(fault),
+        }
+    }
+}
+
 impl Stop {
-    // The number of each stop.
+    // The number of each stop is that of its refusal.
     pub fn number(&self) -> u8
         ensures { result ≡ stop_number self.now }
     {
-        match self {
-            Stop::Settled => 13,
-            Stop::LimitReached => 14,
-            Stop::BudgetSpent => 15,
-            Stop::GaugeFault(_) => 16,
-        }
+        Refusal::from(*self).number()
     }
 }
 
@@ -68,9 +85,9 @@ impl Answer {
         ensures { result ≡ answer_number self.now }
     {
         match self {
-            Answer::Touched(Err(refusal)) => refusal.number(),
-            Answer::Set(Err(refusal)) => refusal.number(),
-            Answer::Told(Err(refusal)) => refusal.number(),
+            Answer::Touched(Err(refusal))
+            | Answer::Set(Err(refusal))
+            | Answer::Told(Err(refusal)) => refusal.number(),
             Answer::Ran(course) => course.stop.number(),
             _ => 0,
         }

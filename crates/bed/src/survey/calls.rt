@@ -6,7 +6,7 @@ ghost use Rattle.logs.specs.Logs.{state_of};
 
 use crate::survey::Survey;
 use crate::survey::runs::repeat_high;
-use crate::survey::touches::{seek_high, seek_left, touch};
+use crate::survey::touches::{seek, touch};
 use caps::Touch;
 use envelope::looks::is_settled;
 use gauges::gauge::Gauge;
@@ -22,7 +22,8 @@ impl<G: Gauge> Survey<G> {
         ensures answer { result ≡ (high (G.Gauge.meaning self.old.gauge).reading (state_of self.old.log)).answer }
         ensures state { state_of self.new.log ≡ (high (G.Gauge.meaning self.old.gauge).reading (state_of self.old.log)).after }
     {
-        seek_high(&self.gauge, &mut self.log)
+        let aim = self.log.high_aim();
+        seek(&self.gauge, &mut self.log, aim)
     }
 
     // Touches position 0 if nothing is touched, else in the lowest open gap the position of largest cap, the lowest on a tie.
@@ -31,7 +32,8 @@ impl<G: Gauge> Survey<G> {
         ensures answer { result ≡ (left (G.Gauge.meaning self.old.gauge).reading (state_of self.old.log)).answer }
         ensures state { state_of self.new.log ≡ (left (G.Gauge.meaning self.old.gauge).reading (state_of self.old.log)).after }
     {
-        seek_left(&self.gauge, &mut self.log)
+        let aim = self.log.left_aim();
+        seek(&self.gauge, &mut self.log, aim)
     }
 
     // Touches the position, on a settled survey too.
@@ -79,15 +81,13 @@ impl<G: Gauge> Survey<G> {
     pub fn ask(&self) -> Result<Report, Refusal>
         ensures { result ≡ (ask (state_of self.now.log)).answer }
     {
-        match self.log.look() {
-            Some(seen) => Ok(Report {
-                floor: seen.floor,
-                ceiling: seen.ceiling,
-                touches: self.log.number_of_touches(),
-                settled: is_settled(Some(seen), self.log.notes.tolerance),
-            }),
-            None => Err(Refusal::NothingTouched),
-        }
+        let seen = self.log.look().ok_or(Refusal::NothingTouched)?;
+        Ok(Report {
+            floor: seen.floor,
+            ceiling: seen.ceiling,
+            touches: self.log.number_of_touches(),
+            settled: is_settled(Some(seen), self.log.notes.tolerance),
+        })
     }
 
     // Any one of the six.

@@ -4,7 +4,7 @@ ghost use Rattle.surveys.specs.Calls.{run};
 ghost use Rattle.logs.specs.Logs.{state_of};
 ghost use Rattle.bed.specs.Seeking.{next_place, FreeNext};
 
-use crate::survey::touches::touch;
+use crate::survey::touches::{place, touch};
 use gauges::gauge::Gauge;
 use logs::log::Log;
 use surveys::answers::{Course, Stop};
@@ -14,23 +14,11 @@ fn place_next(log: &Log, made: u32, budget: u32) -> Result<u16, Stop>
     ensures is { result ≡ next_place (state_of log.now) made budget }
     ensures free { FreeNext (state_of log.now) result }
 {
-    let Some(position) = log.high_aim() else {
-        return Err(Stop::Settled);
-    };
-    if log.is_full() {
-        return Err(Stop::LimitReached);
-    }
+    let position = place(log, log.high_aim())?;
     if made == budget {
         return Err(Stop::BudgetSpent);
     }
     Ok(position)
-}
-
-// The course of a run that made so many touches.
-fn course(made: u32, stop: Stop) -> Course
-    ensures { result ≡ record { made = made; stop = stop } }
-{
-    Course { made, stop }
 }
 
 // Repeats high, at most `budget` times.
@@ -39,17 +27,16 @@ pub(crate) fn repeat_high<G: Gauge>(gauge: &G, log: &mut Log, budget: u32) -> Co
     ensures state { state_of log.new ≡ (run (G.Gauge.meaning gauge.now).reading (state_of log.old) budget).after }
 {
     let mut made = 0;
-    loop {
+    let stop = loop {
         match place_next(log, made, budget) {
             Ok(position) => {
                 if let Err(fault) = touch(gauge, log, position) {
-                    return course(made, Stop::GaugeFault(fault));
+                    break Stop::from(fault);
                 }
             }
-            Err(stop) => {
-                return course(made, stop);
-            }
+            Err(stop) => break stop,
         }
         made += 1;
-    }
+    };
+    Course { made, stop }
 }

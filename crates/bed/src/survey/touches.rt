@@ -1,13 +1,14 @@
 // A touch, and the search for its place.
 ghost use Rattle.std.specs.Prelude.{◌≡◌, false};
 ghost use Rattle.surveys.specs.States.{full};
-ghost use Rattle.surveys.specs.Calls.{touch_at, high, left};
+ghost use Rattle.surveys.specs.Calls.{touch_at};
 ghost use Rattle.logs.specs.Logs.{state_of, Free, FreeAim};
-ghost use Rattle.bed.specs.Seeking.{touch_result, sought};
+ghost use Rattle.bed.specs.Seeking.{touch_result, place_at, sought, FreeNext};
 
 use caps::Touch;
 use gauges::gauge::Gauge;
 use logs::log::Log;
+use surveys::answers::Stop;
 use terms::fault::Fault;
 use terms::refusal::Refusal;
 
@@ -27,35 +28,25 @@ pub(crate) fn touch<G: Gauge>(gauge: &G, log: &mut Log, position: u16) -> Result
     Ok(touch)
 }
 
-// Touches the place of a search; there is none where the survey is settled.
-fn seek<G: Gauge>(gauge: &G, log: &mut Log, aim: Option<u16>) -> Result<Touch, Refusal>
+// Where a touch is made that is aimed there: nowhere if the survey is settled, or its touches equal the limit.
+pub(crate) fn place(log: &Log, aim: Option<u16>) -> Result<u16, Stop>
+    requires { FreeAim (state_of log.now) aim }
+    ensures is { result ≡ place_at (state_of log.now) aim }
+    ensures free { FreeNext (state_of log.now) result }
+{
+    let position = aim.ok_or(Stop::Settled)?;
+    if log.is_full() {
+        return Err(Stop::LimitReached);
+    }
+    Ok(position)
+}
+
+// Touches where a search aims. The gauge is lent beside the log, so that it stays as it was is known by its type.
+pub(crate) fn seek<G: Gauge>(gauge: &G, log: &mut Log, aim: Option<u16>) -> Result<Touch, Refusal>
     requires { FreeAim (state_of log.old) aim }
     ensures answer { result ≡ (sought (G.Gauge.meaning gauge.now).reading (state_of log.old) aim).answer }
     ensures state { state_of log.new ≡ (sought (G.Gauge.meaning gauge.now).reading (state_of log.old) aim).after }
 {
-    let Some(position) = aim else {
-        return Err(Refusal::AlreadySettled);
-    };
-    if log.is_full() {
-        return Err(Refusal::LimitReached);
-    }
+    let position = place(log, aim)?;
     Ok(touch(gauge, log, position)?)
-}
-
-// Touches where high does.
-pub(crate) fn seek_high<G: Gauge>(gauge: &G, log: &mut Log) -> Result<Touch, Refusal>
-    ensures answer { result ≡ (high (G.Gauge.meaning gauge.now).reading (state_of log.old)).answer }
-    ensures state { state_of log.new ≡ (high (G.Gauge.meaning gauge.now).reading (state_of log.old)).after }
-{
-    let aim = log.high_aim();
-    seek(gauge, log, aim)
-}
-
-// Touches where left does.
-pub(crate) fn seek_left<G: Gauge>(gauge: &G, log: &mut Log) -> Result<Touch, Refusal>
-    ensures answer { result ≡ (left (G.Gauge.meaning gauge.now).reading (state_of log.old)).answer }
-    ensures state { state_of log.new ≡ (left (G.Gauge.meaning gauge.now).reading (state_of log.old)).after }
-{
-    let aim = log.left_aim();
-    seek(gauge, log, aim)
 }
