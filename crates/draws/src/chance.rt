@@ -1,8 +1,5 @@
 // Numbers that look drawn, and are the same in every run.
 ghost use Rattle.std.specs.Prelude.{◌<◌, ◌≤◌, unsigned_abs};
-ghost use Rattle.core.specs.Range.{range_inclusive_start, range_inclusive_end};
-
-use std::ops::RangeInclusive;
 
 #[derive(Drop)]
 pub struct Chance {
@@ -36,14 +33,6 @@ impl Chance {
             return low;
         }
         low + self.below(u32::from(high - low) + 1) as u16
-    }
-
-    // A number of a range; its start where the range is empty.
-    pub fn within(&mut self, range: &RangeInclusive<u16>) -> u16
-        ensures least { range_inclusive_start range.now ≤ result }
-        ensures most { range_inclusive_start range.now ≤ range_inclusive_end range.now → result ≤ range_inclusive_end range.now }
-    {
-        self.between(*range.start(), *range.end())
     }
 
     // A number from -n to n.

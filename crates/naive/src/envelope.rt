@@ -1,6 +1,7 @@
 // Caps by every touch, the ceiling by every position, gaps by a walk over the positions.
 use crate::terms::{Line, Touch};
 use std::alloc::{AllocError, Global};
+use std::ops::RangeInclusive;
 
 // The touches on a line.
 #[derive(Clone, Copy, Debug)]
@@ -56,7 +57,7 @@ impl Touches<'_> {
 
     // The cap of a position; none before the first touch.
     pub fn cap(&self, x: u32) -> Option<i64> {
-        self.height_at(x).or(self.least_reach(x))
+        self.height_at(x).or_else(|| self.least_reach(x))
     }
 
     // The largest cap of positions 0 to last; none before the first touch.
@@ -82,9 +83,9 @@ impl Touches<'_> {
         }
     }
 
-    // The untouched position of largest cap from one position to another, the lowest on a tie.
-    fn summit(&self, from: u32, to: u32) -> Option<Place> {
-        (from..=to)
+    // The untouched one of some positions that has the largest cap, the lowest on a tie.
+    fn summit(&self, positions: RangeInclusive<u32>) -> Option<Place> {
+        positions
             .filter(|x| !self.is_touched(*x))
             .filter_map(|position| {
                 let cap = self.least_reach(position)?;
@@ -95,7 +96,7 @@ impl Touches<'_> {
 
     // The untouched position of largest cap, the lowest on a tie; none before the first touch.
     pub fn highest_untouched(&self) -> Option<Place> {
-        self.summit(0, self.line.last)
+        self.summit(0..=self.line.last)
     }
 
     // Whether a position is untouched, and is 0 or has a touched one before it.
@@ -110,7 +111,7 @@ impl Touches<'_> {
         let to = (from..=self.line.last)
             .take_while(|x| !self.is_touched(*x))
             .last()?;
-        let summit = self.summit(from, to)?;
+        let summit = self.summit(from..=to)?;
         Some(Gap { from, to, summit })
     }
 

@@ -42,16 +42,8 @@ impl Sheet {
 
     // What the table or the record of a name means.
     pub fn meaning(&self, heap: Global, name: u8, asked: &[u32]) -> Result<Meaning, AllocError> {
-        let spots = asked
-            .iter()
-            .map(|position| Spot {
-                position: *position,
-                reading: self.reading(name, *position),
-            })
-            .collect(heap)?;
-        Ok(Meaning {
-            line: self.line(),
-            spots,
+        Meaning::of(heap, self.line(), asked, |position| {
+            self.reading(name, position)
         })
     }
 }
@@ -101,17 +93,7 @@ impl Tent {
 
     // What the tent means: all is readable.
     pub fn meaning(&self, heap: Global, asked: &[u32]) -> Result<Meaning, AllocError> {
-        let spots = asked
-            .iter()
-            .map(|position| Spot {
-                position: *position,
-                reading: self.reading(*position),
-            })
-            .collect(heap)?;
-        Ok(Meaning {
-            line: self.line(),
-            spots,
-        })
+        Meaning::of(heap, self.line(), asked, |position| self.reading(position))
     }
 }
 
@@ -131,16 +113,36 @@ fn multiple_below(height: i64, step: i64) -> i64 {
         .unwrap_or(height)
 }
 
-// The reading of two gauges joined: the first is read, then the second.
-fn joined_reading<F: Fn(i64, i64) -> i64>(first: Reading, second: Reading, join: F) -> Reading
-    requires { F.IsAlwaysCallable join }
-{
-    let x = first.map_err(raised)?;
-    let y = second.map_err(raised)?;
-    Ok(join(x, y))
+// The heights of two gauges at one position: beyond their last one a fault of the layer, else the first is read, then the second.
+fn both_heights(last: u32, first: Spot, second: Spot) -> Result<(i64, i64), Fault> {
+    if first.position > last {
+        return Err(fault(Cause::BeyondLast, first.position, 0));
+    }
+    let x = first.reading.map_err(raised)?;
+    let y = second.reading.map_err(raised)?;
+    Ok((x, y))
 }
 
 impl Meaning {
+    // What a gauge of a line means that has this reading at each position.
+    fn of<R: Fn(u32) -> Reading>(
+        heap: Global,
+        line: Line,
+        asked: &[u32],
+        reading: R,
+    ) -> Result<Meaning, AllocError>
+        requires { R.IsAlwaysCallable reading }
+    {
+        let spots = asked
+            .iter()
+            .map(|position| Spot {
+                position: *position,
+                reading: reading(*position),
+            })
+            .collect(heap)?;
+        Ok(Meaning { line, spots })
+    }
+
     // The reading of a position; none where it was not asked.
     pub fn read(&self, position: u32) -> Option<Reading> {
         self.spots
@@ -149,25 +151,28 @@ impl Meaning {
             .map(|spot| spot.reading)
     }
 
-    // The spots of a layer that does something to each height.
-    fn altered<F: Fn(i64) -> i64>(&self, heap: Global, alter: F) -> Result<Vec<Spot>, AllocError>
+    // The spots of a layer that makes its readings of those below.
+    fn altered<F: Fn(Reading) -> Reading>(
+        &self,
+        heap: Global,
+        alter: F,
+    ) -> Result<Vec<Spot>, AllocError>
         requires { F.IsAlwaysCallable alter }
     {
-        let mut spots = Vec::new(heap);
-        for spot in &self.spots {
-            spots.push(Spot {
+        self.spots
+            .iter()
+            .map(|spot| Spot {
                 position: spot.position,
-                reading: spot.reading.map(&alter).map_err(raised),
-            })?;
-        }
-        Ok(spots)
+                reading: alter(spot.reading.map_err(raised)),
+            })
+            .collect(heap)
     }
 
     // Flip: the negated height; the line stays.
     pub fn flip(&self, heap: Global) -> Result<Meaning, AllocError> {
         Ok(Meaning {
             line: self.line,
-            spots: self.altered(heap, |height| height.wrapping_neg())?,
+            spots: self.altered(heap, |reading| reading.map(|height| height.wrapping_neg()))?,
         })
     }
 
@@ -179,12 +184,14 @@ impl Meaning {
                 slack: wider.min(MOST),
                 ..self.line
             },
-            spots: self.altered(heap, |height| multiple_below(height, step).max(-HIGHEST))?,
+            spots: self.altered(heap, |reading| {
+                reading.map(|height| multiple_below(height, step).max(-HIGHEST))
+            })?,
         })
     }
 
-    // The spots of two gauges that were asked the same positions, joined; beyond their last position a fault of the layer.
-    fn joined<F: Fn(i64, i64) -> i64>(
+    // The spots of two gauges that were asked the same positions, joined.
+    fn joined<F: Fn(Result<(i64, i64), Fault>) -> Reading>(
         &self,
         heap: Global,
         second: &Meaning,
@@ -193,17 +200,14 @@ impl Meaning {
         requires { F.IsAlwaysCallable join }
     {
         let last = self.line.last.min(second.line.last);
-        let mut spots = Vec::new(heap);
-        for (a, b) in self.spots.iter().zip(&second.spots) {
-            let position = a.position;
-            let reading = if position > last {
-                Err(fault(Cause::BeyondLast, position, 0))
-            } else {
-                joined_reading(a.reading, b.reading, &join)
-            };
-            spots.push(Spot { position, reading })?;
-        }
-        Ok(spots)
+        self.spots
+            .iter()
+            .zip(&second.spots)
+            .map(|(a, b)| Spot {
+                position: a.position,
+                reading: join(both_heights(last, *a, *b)),
+            })
+            .collect(heap)
     }
 
     // Higher: the greater height; the greater slope and slack.
@@ -214,7 +218,7 @@ impl Meaning {
                 slope: self.line.slope.max(second.line.slope),
                 slack: self.line.slack.max(second.line.slack),
             },
-            spots: self.joined(heap, second, |x, y| x.max(y))?,
+            spots: self.joined(heap, second, |both| both.map(|(x, y)| x.max(y)))?,
         })
     }
 
@@ -228,8 +232,8 @@ impl Meaning {
                 slope: slope.min(MOST),
                 slack: slack.min(MOST),
             },
-            spots: self.joined(heap, second, |x, y| {
-                x.wrapping_add(y).clamp(-HIGHEST, HIGHEST)
+            spots: self.joined(heap, second, |both| {
+                both.map(|(x, y)| x.wrapping_add(y).clamp(-HIGHEST, HIGHEST))
             })?,
         })
     }

@@ -112,6 +112,17 @@ impl Survey {
         self.check_limit()
     }
 
+    // 11, 12 and 14, the tests before a touch of a position.
+    fn check_at(&self, position: u32) -> Result<(), Denial> {
+        if position > self.line.last {
+            return Err(Denial::bare(11));
+        }
+        if self.on_line().is_touched(position) {
+            return Err(Denial::bare(12));
+        }
+        self.check_limit()
+    }
+
     // Adds a touch, in rising order of position.
     fn add(&mut self, touch: Touch) -> Result<(), AllocError> {
         self.touches.push(touch)?;
@@ -144,13 +155,7 @@ impl Survey {
 
     // Touches a position: 11, 12, 14, 16.
     fn at(&mut self, gauge: &Meaning, position: u32) -> Result<Touch, Failure> {
-        if position > self.line.last {
-            return Err(Failure::from(Denial::bare(11)));
-        }
-        if self.on_line().is_touched(position) {
-            return Err(Failure::from(Denial::bare(12)));
-        }
-        self.check_limit()?;
+        self.check_at(position)?;
         self.touch(gauge, position)
     }
 

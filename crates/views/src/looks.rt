@@ -44,8 +44,10 @@ impl Look {
             list: &list,
         };
         let tolerance = i64::from(self.tolerance);
-        Ok(does_outlook_agree(outlook, others)
-            && is_settled(outlook, self.tolerance) == others.is_settled(tolerance)
-            && open.into_naive() == others.lowest_open(heap, tolerance)?)
+        Ok(
+            does_outlook_agree(outlook, others)
+                && is_settled(outlook, self.tolerance) == others.is_settled(tolerance)
+                && open.into_naive() == others.lowest_open(heap, tolerance)?,
+        )
     }
 }
