@@ -1,27 +1,38 @@
 // Worked examples whose figures are known: both texts give them.
-use crate::case::{Case, Met};
-use crate::looks::do_looks_agree;
-use crate::views::{denial_of, length_of, verdict_of};
+use crate::case::{Case, Clerk};
 use bed::survey::Survey;
 use caps::{Line, Touch};
 use certificates::writer::certify;
 use gauges::table::Table;
 use logs::log::Log;
 use logs::setting::Setting;
-use naive::envelope::cap;
-use naive::gauges::list_meaning;
+use naive::laws::Sheet;
 use naive::survey::Call;
-use naive::terms::{Denial, Told};
+use naive::terms::{Denial, Told, ruled};
 use naive_texts::transcript::transcript;
 use records::record::check;
 use std::alloc::{AllocError, Global};
 use transcripts::print::print;
+use views::looks::Look;
+use views::words::IntoNaive;
 
-// A worked example, by its place in the list below.
-#[derive(Drop, Debug)]
-pub struct Example {
-    pub number: u32,
+// A worked example.
+#[derive(Clone, Copy, Debug)]
+pub enum Example {
+    NeighboursKeepTheLaw,
+    SmallRecords,
+    CapsByAllTouches,
+    CertificateOf30,
+    WorkedTalk,
 }
+
+pub const EXAMPLES: [Example; 5] = [
+    Example::NeighboursKeepTheLaw,
+    Example::SmallRecords,
+    Example::CapsByAllTouches,
+    Example::CertificateOf30,
+    Example::WorkedTalk,
+];
 
 // Last 10, slope 5, slack 0.
 const HEIGHTS: [i32; 11] = [0, 4, 8, 10, 9, 5, 6, 9, 7, 3, 0];
@@ -38,6 +49,15 @@ const CERTIFICATE: [u8; 30] = [
     0x00, 0xC0, 0x02, 0x80, 0x14, 0x00, 0x14, 0x01, 0xC0, 0x02, 0x40, 0x28, 0x00, 0x00,
 ];
 
+// A naive sheet.
+fn sheet(heap: Global, slope: i64, slack: i64, heights: &[i64]) -> Result<Sheet, AllocError> {
+    Ok(Sheet {
+        slope,
+        slack,
+        heights: Vec::from_slice(heap, heights)?,
+    })
+}
+
 // 8 at two positions.
 fn broken(later: u32, earlier: u32) -> Result<(), Denial> {
     Err(Denial {
@@ -47,40 +67,39 @@ fn broken(later: u32, earlier: u32) -> Result<(), Denial> {
 }
 
 // Slope 1, slack 4, heights 0, 5, 10: the first and the third break the law, though neighbours keep it.
-fn neighbours_keep_the_law() -> bool {
-    verdict_of(Table::check(&[0, 5, 10], 1, 4, 1)) == broken(2, 0)
-        && naive::laws::check_table(1, 4, &[0, 5, 10], 1) == broken(2, 0)
+fn neighbours_keep_the_law(heap: Global) -> Result<bool, AllocError> {
+    let verdict = sheet(heap, 1, 4, &[0, 5, 10])?.check_as_table(1);
+    Ok(verdict == broken(2, 0) && Table::check(&[0, 5, 10], 1, 4, 1).into_naive() == verdict)
 }
 
 // A record that both texts give the same verdict.
 fn is_judged(heap: Global, bytes: &[u8], verdict: Result<(), Denial>) -> Result<bool, AllocError> {
-    Ok(verdict_of(check(bytes, 1)) == verdict && naive::records::check(heap, bytes, 1)? == verdict)
+    let expected = ruled(naive::records::check(heap, bytes, 1))?;
+    Ok(expected == verdict && check(bytes, 1).into_naive() == verdict)
 }
 
 // 3 and −2 at slope 5: lawful; with a pad bit 6; with −3 8 at 1 and 0.
 fn small_records(heap: Global) -> Result<bool, AllocError> {
-    Ok(
-        is_judged(heap, &[0, 0x10, 0, 0x50, 0, 0, 0, 0x3F, 0xFF, 0xE0], Ok(()))?
-            && is_judged(
-                heap,
-                &[0, 0x10, 0, 0x50, 0, 0, 0, 0x3F, 0xFF, 0xE1],
-                Err(Denial::bare(6)),
-            )?
-            && is_judged(
-                heap,
-                &[0, 0x10, 0, 0x50, 0, 0, 0, 0x3F, 0xFF, 0xD0],
-                broken(1, 0),
-            )?,
-    )
+    for (end, verdict) in [
+        (0xE0, Ok(())),
+        (0xE1, Err(Denial::bare(6))),
+        (0xD0, broken(1, 0)),
+    ] {
+        let record = [0, 0x10, 0, 0x50, 0, 0, 0, 0x3F, 0xFF, end];
+        if !is_judged(heap, &record, verdict)? {
+            return Ok(false);
+        }
+    }
+    Ok(true)
 }
 
 // The naive survey of the sheet at tolerance 3, settled.
 fn naive_settled(heap: Global) -> Result<naive::survey::Survey, AllocError> {
-    let heights = [0, 4, 8, 10, 9, 5, 6, 9, 7, 3, 0];
+    let sheet = sheet(heap, 5, 0, &[0, 4, 8, 10, 9, 5, 6, 9, 7, 3, 0])?;
     let asked = [0, 1, 2, 3, 4, 5, 6, 7, 8, 9, 10];
-    let gauge = list_meaning(heap, 5, 0, &heights, 1, &asked)?;
+    let gauge = sheet.meaning(heap, 1, &asked)?;
     let mut survey = naive::survey::Survey::open(heap, gauge.line, 3, 256);
-    let _ = survey.call(heap, &gauge, Call::Run(9))?;
+    let _ = ruled(survey.call(heap, &gauge, Call::Run(9)))?;
     Ok(survey)
 }
 
@@ -94,9 +113,10 @@ fn is_certified(
     let mut buffer = Vec::from_elem(heap, 0u8, bytes.len())?;
     let mut other = Vec::from_elem(heap, 0u8, bytes.len())?;
     let survey = naive_settled(heap)?;
+    let written = naive_texts::certificate::certify(heap, &survey, &mut other);
     Ok(
-        length_of(certify(log, &mut buffer)) == answer
-            && naive_texts::certificate::certify(heap, &survey, &mut other)? == answer
+        certify(log, &mut buffer).into_naive() == answer
+            && ruled(written)? == answer
             && buffer.as_slice() == bytes
             && other.as_slice() == bytes,
     )
@@ -118,41 +138,24 @@ fn certificate_of_30(heap: Global) -> Result<bool, AllocError> {
 
 // Slope 1, slack 4, last 4, touches 0 (height 0) and 2 (height 6): the caps at 1, 3, 4 are 5, 7, 8.
 fn caps_by_all_touches(heap: Global) -> Result<bool, AllocError> {
-    let line = naive::terms::Line {
+    let line = Line {
         last: 4,
         slope: 1,
         slack: 4,
     };
-    let near = naive::terms::Touch {
-        position: 0,
-        height: 0,
+    let touches = [(0, 0), (2, 6)].map(|(position, height)| Touch { position, height });
+    let others = touches.map(|touch| touch.into_naive());
+    let naive = naive::envelope::Touches {
+        line: line.into_naive(),
+        list: &others,
     };
-    let far = naive::terms::Touch {
-        position: 2,
-        height: 6,
+    let known = [(1, 5), (3, 7), (4, 8)];
+    let look = Look {
+        line,
+        touches: Vec::from_slice(heap, &touches)?,
+        tolerance: 1,
     };
-    let others = [near, far];
-    let touches = [
-        Touch {
-            position: 0,
-            height: 0,
-        },
-        Touch {
-            position: 2,
-            height: 6,
-        },
-    ];
-    let proved = Line {
-        last: 4,
-        slope: 1,
-        slack: 4,
-    };
-    Ok(
-        cap(line, &others, 1) == 5
-            && cap(line, &others, 3) == 7
-            && cap(line, &others, 4) == 8
-            && do_looks_agree(heap, proved, &touches, 1)?,
-    )
+    Ok(known.iter().all(|(x, cap)| naive.cap(*x) == Some(*cap)) && look.do_texts_agree(heap)?)
 }
 
 // The worked talk.
@@ -168,13 +171,14 @@ fn worked_talk(heap: Global) -> Result<bool, AllocError> {
 }
 
 impl Case for Example {
-    fn agrees(&self, heap: Global, _met: &mut Met) -> Result<bool, AllocError> {
-        match self.number {
-            0 => Ok(neighbours_keep_the_law()),
-            1 => small_records(heap),
-            2 => caps_by_all_touches(heap),
-            3 => certificate_of_30(heap),
-            _ => worked_talk(heap),
+    fn agrees(&self, clerk: &mut Clerk) -> Result<bool, AllocError> {
+        let heap = clerk.heap;
+        match self {
+            Example::NeighboursKeepTheLaw => neighbours_keep_the_law(heap),
+            Example::SmallRecords => small_records(heap),
+            Example::CapsByAllTouches => caps_by_all_touches(heap),
+            Example::CertificateOf30 => certificate_of_30(heap),
+            Example::WorkedTalk => worked_talk(heap),
         }
     }
 }

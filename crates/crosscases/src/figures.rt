@@ -1,7 +1,6 @@
 // The tests of tables, tents, steps and openings, on figures in and out of range.
-use crate::case::{Case, Met};
-use crate::trials::{figure_for, heights_for, tent_for};
-use crate::views::{denial_of, number_of, verdict_of};
+use crate::arguments::{figure_for, heights_for, tent_for};
+use crate::case::{Case, Clerk, Subject};
 use draws::chance::Chance;
 use draws::damage::draw_odd_height;
 use draws::sheets::{Shape, draw_sheet};
@@ -9,12 +8,12 @@ use gauges::table::Table;
 use layers::step::Step;
 use logs::setting::Setting;
 use naive::gauges::Tent;
-use naive::laws::{check_step, check_table, check_tent};
-use naive::records::Sheet;
+use naive::laws::{Sheet, check_step};
 use naive::survey::check_opening;
 use naive::terms::Denial;
 use std::alloc::{AllocError, Global};
 use terms::refusal::Refusal;
+use views::words::IntoNaive;
 
 // A table, a tent, a step and an opening, each in range or out of it.
 #[derive(Drop, Debug)]
@@ -28,29 +27,31 @@ pub struct Figures {
 }
 
 // The verdict on something that is made; what was made is let go.
-fn made<T: Drop>(res: Result<T, Refusal>) -> Result<(), Denial> {
-    match res {
-        Ok(_) => Ok(()),
-        Err(refusal) => Err(denial_of(refusal)),
-    }
+fn made<T: Drop>(made: Result<T, Refusal>) -> Result<(), Denial> {
+    made.map(|_made| ()).into_naive()
 }
 
 impl Figures {
+    // Whether the table is refused alike.
+    fn do_tables_agree(&self, clerk: &mut Clerk) -> Result<bool, AllocError> {
+        let sheet = &self.sheet;
+        let heights = heights_for(clerk.heap, &sheet.heights)?;
+        let slope = figure_for(sheet.slope);
+        let slack = figure_for(sheet.slack);
+        let verdict = Table::check(&heights, slope, slack, self.name).into_naive();
+        let expected = sheet.check_as_table(self.name);
+        clerk.note_verdict(&expected);
+        Ok(verdict == expected)
+    }
+
     // Whether the tent, the step and the opening are refused alike.
-    fn do_small_agree(&self, met: &mut Met) -> bool {
-        let Tent {
-            last,
-            slope,
-            crown,
-            height,
-            name,
-        } = self.tent;
-        let tent = check_tent(last, slope, crown, height, name);
+    fn do_small_agree(&self, clerk: &mut Clerk) -> bool {
+        let tent = self.tent.check();
         let step = check_step(i64::from(self.step));
         let opening = check_opening(i64::from(self.tolerance), u64::from(self.limit));
-        met.note(number_of(&tent));
-        met.note(number_of(&step));
-        met.note(number_of(&opening));
+        clerk.note_verdict(&tent);
+        clerk.note_verdict(&step);
+        clerk.note_verdict(&opening);
         made(tent_for(self.tent)) == tent
             && made(Step::new(self.step)) == step
             && made(Setting::new(self.tolerance, self.limit)) == opening
@@ -58,16 +59,14 @@ impl Figures {
 }
 
 impl Case for Figures {
-    fn agrees(&self, heap: Global, met: &mut Met) -> Result<bool, AllocError> {
-        let sheet = &self.sheet;
-        let heights = heights_for(heap, &sheet.heights)?;
-        let slope = figure_for(sheet.slope);
-        let slack = figure_for(sheet.slack);
-        let verdict = verdict_of(Table::check(&heights, slope, slack, self.name));
-        let expected = check_table(sheet.slope, sheet.slack, &sheet.heights, self.name);
-        met.note(number_of(&expected));
-        Ok(verdict == expected && self.do_small_agree(met))
+    fn agrees(&self, clerk: &mut Clerk) -> Result<bool, AllocError> {
+        Ok(self.do_tables_agree(clerk)? && self.do_small_agree(clerk))
     }
+}
+
+// Any name, often 0.
+pub fn draw_name(chance: &mut Chance) -> u8 {
+    if chance.once_in(4) { 0 } else { chance.byte() }
 }
 
 // A sheet with an odd height somewhere, half of the time; now and then another slope or slack, or no second height.
@@ -102,23 +101,27 @@ fn draw_odd_tent(chance: &mut Chance) -> Tent {
         slope: i64::from(chance.about(40_000)),
         crown: chance.below(last.saturating_add(2)),
         height: draw_odd_height(chance, 0),
-        name: if chance.once_in(4) { 0 } else { chance.byte() },
+        name: draw_name(chance),
     }
 }
 
+// The tests of a table, a tent, a step and an opening.
+pub struct Tests {
+    pub shape: Shape,
+}
+
 // Figures that are in range or out of it, each on its own.
-pub fn draw_figures(
-    heap: Global,
-    chance: &mut Chance,
-    shape: Shape,
-    last: u16,
-) -> Result<Figures, AllocError> {
-    Ok(Figures {
-        sheet: draw_odd_sheet(heap, chance, shape, last)?,
-        name: if chance.once_in(4) { 0 } else { chance.byte() },
-        tent: draw_odd_tent(chance),
-        step: chance.about(1_000),
-        tolerance: chance.about(40_000),
-        limit: chance.about(256),
-    })
+impl Subject for Tests {
+    type Drawn = Figures;
+
+    fn draw(&self, heap: Global, chance: &mut Chance, last: u16) -> Result<Figures, AllocError> {
+        Ok(Figures {
+            sheet: draw_odd_sheet(heap, chance, self.shape, last)?,
+            name: draw_name(chance),
+            tent: draw_odd_tent(chance),
+            step: chance.about(1_000),
+            tolerance: chance.about(40_000),
+            limit: chance.about(256),
+        })
+    }
 }

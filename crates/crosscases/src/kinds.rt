@@ -1,76 +1,24 @@
-// The kinds of cases.
-use crate::trials::Stack;
+// The kinds of cases, in the order in which they are checked.
+use crate::case::Kind;
+use crate::figures::Tests;
+use crate::looks::Looks;
+use crate::papers::{Papers, Writings};
+use crate::talks::Talks;
+use crate::trials::{Calls, Runs, Stack};
 use draws::damage::Damage;
 use draws::sheets::Shape;
-
-// What a case is about.
-#[derive(Clone, Copy)]
-pub enum What {
-    // Worked examples with known figures.
-    Examples,
-    // Touches on a line, about one in so many positions.
-    Looks {
-        shape: Shape,
-        one_in: u32,
-    },
-    // Up to so many calls to a survey.
-    Calls {
-        shape: Shape,
-        stack: Stack,
-        calls: u16,
-    },
-    // A search of up to 256 touches, at tolerance 0 where it is exact.
-    Runs {
-        shape: Shape,
-        stack: Stack,
-        exact: bool,
-    },
-    // The tests of a table, a tent, a step and an opening.
-    Figures {
-        shape: Shape,
-    },
-    // The tests of a record.
-    Papers {
-        shape: Shape,
-        damage: Damage,
-    },
-    // The writing of a record.
-    Writings {
-        shape: Shape,
-    },
-    // The command program's text; an input is cut or filled up to a length.
-    Talks {
-        shape: Shape,
-        damage: Damage,
-        length: Option<usize>,
-    },
-}
-
-// How many cases are drawn, the last position from the first to the second number, and what they are about.
-#[derive(Clone, Copy)]
-pub struct Kind {
-    pub name: &'static str,
-    pub cases: u32,
-    pub last: (u16, u16),
-    pub what: What,
-}
 
 const SHORT: (u16, u16) = (1, 30);
 
 const LONG: (u16, u16) = (4_000, 4_000);
 
-pub const KINDS: [Kind; 59] = [
-    Kind {
-        name: "worked examples",
-        cases: 5,
-        last: SHORT,
-        what: What::Examples,
-    },
+// Looks at touches.
+pub const LOOKS: [Kind<Looks>; 10] = [
     Kind {
         name: "looks at flat",
         cases: 300,
         last: SHORT,
-        what: What::Looks {
+        about: Looks {
             shape: Shape::Flat,
             one_in: 3,
         },
@@ -79,7 +27,7 @@ pub const KINDS: [Kind; 59] = [
         name: "looks at ramps",
         cases: 300,
         last: SHORT,
-        what: What::Looks {
+        about: Looks {
             shape: Shape::Ramp,
             one_in: 3,
         },
@@ -88,7 +36,7 @@ pub const KINDS: [Kind; 59] = [
         name: "looks at noise",
         cases: 300,
         last: SHORT,
-        what: What::Looks {
+        about: Looks {
             shape: Shape::Noise,
             one_in: 3,
         },
@@ -97,7 +45,7 @@ pub const KINDS: [Kind; 59] = [
         name: "looks at walks",
         cases: 300,
         last: SHORT,
-        what: What::Looks {
+        about: Looks {
             shape: Shape::Walk,
             one_in: 3,
         },
@@ -106,7 +54,7 @@ pub const KINDS: [Kind; 59] = [
         name: "looks at holes",
         cases: 300,
         last: SHORT,
-        what: What::Looks {
+        about: Looks {
             shape: Shape::Holes,
             one_in: 3,
         },
@@ -115,7 +63,7 @@ pub const KINDS: [Kind; 59] = [
         name: "looks at extremes",
         cases: 300,
         last: SHORT,
-        what: What::Looks {
+        about: Looks {
             shape: Shape::Extreme,
             one_in: 3,
         },
@@ -124,7 +72,7 @@ pub const KINDS: [Kind; 59] = [
         name: "looks at free heights",
         cases: 300,
         last: SHORT,
-        what: What::Looks {
+        about: Looks {
             shape: Shape::Free,
             one_in: 3,
         },
@@ -133,7 +81,7 @@ pub const KINDS: [Kind; 59] = [
         name: "looks at full beds",
         cases: 300,
         last: (1, 8),
-        what: What::Looks {
+        about: Looks {
             shape: Shape::Walk,
             one_in: 1,
         },
@@ -142,7 +90,7 @@ pub const KINDS: [Kind; 59] = [
         name: "looks at long beds",
         cases: 24,
         last: LONG,
-        what: What::Looks {
+        about: Looks {
             shape: Shape::Walk,
             one_in: 12,
         },
@@ -151,16 +99,20 @@ pub const KINDS: [Kind; 59] = [
         name: "looks at long beds, extremes",
         cases: 24,
         last: LONG,
-        what: What::Looks {
+        about: Looks {
             shape: Shape::Extreme,
             one_in: 500,
         },
     },
+];
+
+// Lists of calls.
+pub const CALLS: [Kind<Calls>; 16] = [
     Kind {
         name: "calls on flat",
         cases: 300,
         last: SHORT,
-        what: What::Calls {
+        about: Calls {
             shape: Shape::Flat,
             stack: Stack::Table,
             calls: 16,
@@ -170,7 +122,7 @@ pub const KINDS: [Kind; 59] = [
         name: "calls on ramps",
         cases: 300,
         last: SHORT,
-        what: What::Calls {
+        about: Calls {
             shape: Shape::Ramp,
             stack: Stack::Table,
             calls: 16,
@@ -180,7 +132,7 @@ pub const KINDS: [Kind; 59] = [
         name: "calls on noise",
         cases: 300,
         last: SHORT,
-        what: What::Calls {
+        about: Calls {
             shape: Shape::Noise,
             stack: Stack::Table,
             calls: 16,
@@ -190,7 +142,7 @@ pub const KINDS: [Kind; 59] = [
         name: "calls on walks",
         cases: 300,
         last: SHORT,
-        what: What::Calls {
+        about: Calls {
             shape: Shape::Walk,
             stack: Stack::Table,
             calls: 16,
@@ -200,7 +152,7 @@ pub const KINDS: [Kind; 59] = [
         name: "calls on holes",
         cases: 300,
         last: SHORT,
-        what: What::Calls {
+        about: Calls {
             shape: Shape::Holes,
             stack: Stack::Table,
             calls: 16,
@@ -210,7 +162,7 @@ pub const KINDS: [Kind; 59] = [
         name: "calls on extremes",
         cases: 300,
         last: SHORT,
-        what: What::Calls {
+        about: Calls {
             shape: Shape::Extreme,
             stack: Stack::Table,
             calls: 16,
@@ -220,7 +172,7 @@ pub const KINDS: [Kind; 59] = [
         name: "calls through a record",
         cases: 300,
         last: SHORT,
-        what: What::Calls {
+        about: Calls {
             shape: Shape::Holes,
             stack: Stack::Record,
             calls: 16,
@@ -230,7 +182,7 @@ pub const KINDS: [Kind; 59] = [
         name: "calls through a tent",
         cases: 300,
         last: SHORT,
-        what: What::Calls {
+        about: Calls {
             shape: Shape::Flat,
             stack: Stack::Tent,
             calls: 16,
@@ -240,7 +192,7 @@ pub const KINDS: [Kind; 59] = [
         name: "calls through flip",
         cases: 300,
         last: SHORT,
-        what: What::Calls {
+        about: Calls {
             shape: Shape::Holes,
             stack: Stack::Flip,
             calls: 16,
@@ -250,7 +202,7 @@ pub const KINDS: [Kind; 59] = [
         name: "calls through coarse",
         cases: 300,
         last: SHORT,
-        what: What::Calls {
+        about: Calls {
             shape: Shape::Walk,
             stack: Stack::Coarse,
             calls: 16,
@@ -260,7 +212,7 @@ pub const KINDS: [Kind; 59] = [
         name: "calls through higher",
         cases: 300,
         last: SHORT,
-        what: What::Calls {
+        about: Calls {
             shape: Shape::Holes,
             stack: Stack::Higher,
             calls: 16,
@@ -270,7 +222,7 @@ pub const KINDS: [Kind; 59] = [
         name: "calls through sum",
         cases: 300,
         last: SHORT,
-        what: What::Calls {
+        about: Calls {
             shape: Shape::Walk,
             stack: Stack::Sum,
             calls: 16,
@@ -280,7 +232,7 @@ pub const KINDS: [Kind; 59] = [
         name: "calls through a deep stack",
         cases: 300,
         last: SHORT,
-        what: What::Calls {
+        about: Calls {
             shape: Shape::Holes,
             stack: Stack::Deep,
             calls: 16,
@@ -290,7 +242,7 @@ pub const KINDS: [Kind; 59] = [
         name: "calls through a deep stack, extremes",
         cases: 300,
         last: SHORT,
-        what: What::Calls {
+        about: Calls {
             shape: Shape::Extreme,
             stack: Stack::Deep,
             calls: 16,
@@ -300,7 +252,7 @@ pub const KINDS: [Kind; 59] = [
         name: "calls on beds of 100 to 400",
         cases: 60,
         last: (100, 400),
-        what: What::Calls {
+        about: Calls {
             shape: Shape::Walk,
             stack: Stack::Record,
             calls: 16,
@@ -310,81 +262,93 @@ pub const KINDS: [Kind; 59] = [
         name: "calls on long beds",
         cases: 12,
         last: LONG,
-        what: What::Calls {
+        about: Calls {
             shape: Shape::Holes,
             stack: Stack::Record,
             calls: 8,
         },
     },
+];
+
+// Runs to the end.
+pub const RUNS: [Kind<Runs>; 5] = [
     Kind {
         name: "exact runs on long beds, ramps",
         cases: 6,
         last: LONG,
-        what: What::Runs {
+        about: Runs {
             shape: Shape::Ramp,
             stack: Stack::Record,
-            exact: true,
+            tolerance: Some(0),
         },
     },
     Kind {
         name: "exact runs on long beds, noise",
         cases: 6,
         last: LONG,
-        what: What::Runs {
+        about: Runs {
             shape: Shape::Noise,
             stack: Stack::Table,
-            exact: true,
+            tolerance: Some(0),
         },
     },
     Kind {
         name: "exact runs on long beds, walks",
         cases: 6,
         last: LONG,
-        what: What::Runs {
+        about: Runs {
             shape: Shape::Walk,
             stack: Stack::Deep,
-            exact: true,
+            tolerance: Some(0),
         },
     },
     Kind {
         name: "exact runs on long beds, extremes",
         cases: 6,
         last: LONG,
-        what: What::Runs {
+        about: Runs {
             shape: Shape::Extreme,
             stack: Stack::Sum,
-            exact: true,
+            tolerance: Some(0),
         },
     },
     Kind {
         name: "certificates of short beds",
         cases: 300,
         last: SHORT,
-        what: What::Runs {
+        about: Runs {
             shape: Shape::Walk,
             stack: Stack::Record,
-            exact: false,
+            tolerance: None,
         },
     },
+];
+
+// Figures in and out of range.
+pub const TESTS: [Kind<Tests>; 2] = [
     Kind {
         name: "figures in and out of range",
         cases: 1_500,
         last: (1, 12),
-        what: What::Figures { shape: Shape::Walk },
+        about: Tests { shape: Shape::Walk },
     },
     Kind {
         name: "figures, extremes",
         cases: 500,
         last: (1, 12),
-        what: What::Figures {
+        about: Tests {
             shape: Shape::Extreme,
         },
     },
+];
+
+// Records that are tested.
+pub const PAPERS: [Kind<Papers>; 12] = [
     Kind {
         name: "records, whole",
         cases: 300,
         last: SHORT,
-        what: What::Papers {
+        about: Papers {
             shape: Shape::Holes,
             damage: Damage::Nowhere,
         },
@@ -393,7 +357,7 @@ pub const KINDS: [Kind; 59] = [
         name: "records, cut",
         cases: 300,
         last: SHORT,
-        what: What::Papers {
+        about: Papers {
             shape: Shape::Holes,
             damage: Damage::Cut,
         },
@@ -402,7 +366,7 @@ pub const KINDS: [Kind; 59] = [
         name: "records, too long",
         cases: 300,
         last: SHORT,
-        what: What::Papers {
+        about: Papers {
             shape: Shape::Holes,
             damage: Damage::Longer,
         },
@@ -411,7 +375,7 @@ pub const KINDS: [Kind; 59] = [
         name: "records, other last",
         cases: 300,
         last: SHORT,
-        what: What::Papers {
+        about: Papers {
             shape: Shape::Holes,
             damage: Damage::Last,
         },
@@ -420,7 +384,7 @@ pub const KINDS: [Kind; 59] = [
         name: "records, other slope",
         cases: 300,
         last: SHORT,
-        what: What::Papers {
+        about: Papers {
             shape: Shape::Holes,
             damage: Damage::Slope,
         },
@@ -429,7 +393,7 @@ pub const KINDS: [Kind; 59] = [
         name: "records, other slack",
         cases: 300,
         last: SHORT,
-        what: What::Papers {
+        about: Papers {
             shape: Shape::Holes,
             damage: Damage::Slack,
         },
@@ -438,7 +402,7 @@ pub const KINDS: [Kind; 59] = [
         name: "records, odd height",
         cases: 300,
         last: SHORT,
-        what: What::Papers {
+        about: Papers {
             shape: Shape::Holes,
             damage: Damage::Height,
         },
@@ -447,7 +411,7 @@ pub const KINDS: [Kind; 59] = [
         name: "records, pad bit",
         cases: 300,
         last: SHORT,
-        what: What::Papers {
+        about: Papers {
             shape: Shape::Holes,
             damage: Damage::Pad,
         },
@@ -456,7 +420,7 @@ pub const KINDS: [Kind; 59] = [
         name: "records, bytes changed",
         cases: 300,
         last: SHORT,
-        what: What::Papers {
+        about: Papers {
             shape: Shape::Holes,
             damage: Damage::Bytes,
         },
@@ -465,7 +429,7 @@ pub const KINDS: [Kind; 59] = [
         name: "records, all changed",
         cases: 300,
         last: SHORT,
-        what: What::Papers {
+        about: Papers {
             shape: Shape::Holes,
             damage: Damage::All,
         },
@@ -474,7 +438,7 @@ pub const KINDS: [Kind; 59] = [
         name: "records, extremes, odd height",
         cases: 300,
         last: SHORT,
-        what: What::Papers {
+        about: Papers {
             shape: Shape::Extreme,
             damage: Damage::Height,
         },
@@ -483,22 +447,26 @@ pub const KINDS: [Kind; 59] = [
         name: "records of long beds",
         cases: 12,
         last: LONG,
-        what: What::Papers {
+        about: Papers {
             shape: Shape::Walk,
             damage: Damage::Height,
         },
     },
+];
+
+// Records that are written.
+pub const WRITINGS: [Kind<Writings>; 5] = [
     Kind {
         name: "records written, walks",
         cases: 300,
         last: SHORT,
-        what: What::Writings { shape: Shape::Walk },
+        about: Writings { shape: Shape::Walk },
     },
     Kind {
         name: "records written, holes",
         cases: 300,
         last: SHORT,
-        what: What::Writings {
+        about: Writings {
             shape: Shape::Holes,
         },
     },
@@ -506,7 +474,7 @@ pub const KINDS: [Kind; 59] = [
         name: "records written, extremes",
         cases: 300,
         last: SHORT,
-        what: What::Writings {
+        about: Writings {
             shape: Shape::Extreme,
         },
     },
@@ -514,21 +482,27 @@ pub const KINDS: [Kind; 59] = [
         name: "records written, free heights",
         cases: 300,
         last: SHORT,
-        what: What::Writings { shape: Shape::Free },
+        about: Writings { shape: Shape::Free },
     },
     Kind {
         name: "records written, long beds",
         cases: 12,
         last: LONG,
-        what: What::Writings { shape: Shape::Ramp },
+        about: Writings { shape: Shape::Ramp },
     },
+];
+
+// Talks of the command program.
+pub const TALKS: [Kind<Talks>; 8] = [
     Kind {
         name: "talks over walks",
         cases: 300,
         last: SHORT,
-        what: What::Talks {
-            shape: Shape::Walk,
-            damage: Damage::Nowhere,
+        about: Talks {
+            over: Papers {
+                shape: Shape::Walk,
+                damage: Damage::Nowhere,
+            },
             length: None,
         },
     },
@@ -536,9 +510,11 @@ pub const KINDS: [Kind; 59] = [
         name: "talks over holes",
         cases: 300,
         last: SHORT,
-        what: What::Talks {
-            shape: Shape::Holes,
-            damage: Damage::Nowhere,
+        about: Talks {
+            over: Papers {
+                shape: Shape::Holes,
+                damage: Damage::Nowhere,
+            },
             length: None,
         },
     },
@@ -546,9 +522,11 @@ pub const KINDS: [Kind; 59] = [
         name: "talks over extremes",
         cases: 300,
         last: SHORT,
-        what: What::Talks {
-            shape: Shape::Extreme,
-            damage: Damage::Nowhere,
+        about: Talks {
+            over: Papers {
+                shape: Shape::Extreme,
+                damage: Damage::Nowhere,
+            },
             length: None,
         },
     },
@@ -556,9 +534,11 @@ pub const KINDS: [Kind; 59] = [
         name: "talks over damaged records",
         cases: 300,
         last: SHORT,
-        what: What::Talks {
-            shape: Shape::Walk,
-            damage: Damage::Bytes,
+        about: Talks {
+            over: Papers {
+                shape: Shape::Walk,
+                damage: Damage::Bytes,
+            },
             length: None,
         },
     },
@@ -566,9 +546,11 @@ pub const KINDS: [Kind; 59] = [
         name: "talks over records cut off",
         cases: 100,
         last: SHORT,
-        what: What::Talks {
-            shape: Shape::Walk,
-            damage: Damage::Cut,
+        about: Talks {
+            over: Papers {
+                shape: Shape::Walk,
+                damage: Damage::Cut,
+            },
             length: None,
         },
     },
@@ -576,9 +558,11 @@ pub const KINDS: [Kind; 59] = [
         name: "talks of 4,096 bytes",
         cases: 12,
         last: (100, 300),
-        what: What::Talks {
-            shape: Shape::Holes,
-            damage: Damage::Nowhere,
+        about: Talks {
+            over: Papers {
+                shape: Shape::Holes,
+                damage: Damage::Nowhere,
+            },
             length: Some(4_096),
         },
     },
@@ -586,9 +570,11 @@ pub const KINDS: [Kind; 59] = [
         name: "talks of 4,097 bytes",
         cases: 12,
         last: (100, 300),
-        what: What::Talks {
-            shape: Shape::Holes,
-            damage: Damage::Nowhere,
+        about: Talks {
+            over: Papers {
+                shape: Shape::Holes,
+                damage: Damage::Nowhere,
+            },
             length: Some(4_097),
         },
     },
@@ -596,9 +582,11 @@ pub const KINDS: [Kind; 59] = [
         name: "talks of 4,096 bytes over long beds",
         cases: 2,
         last: LONG,
-        what: What::Talks {
-            shape: Shape::Walk,
-            damage: Damage::Nowhere,
+        about: Talks {
+            over: Papers {
+                shape: Shape::Walk,
+                damage: Damage::Nowhere,
+            },
             length: Some(4_096),
         },
     },

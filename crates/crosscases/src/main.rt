@@ -1,6 +1,7 @@
 // The proved crates against the naive second text of the same rules, on drawn cases.
 #![tactic(auto)]
 
+mod arguments;
 mod case;
 mod ends;
 mod examples;
@@ -8,157 +9,124 @@ mod figures;
 mod kinds;
 mod looks;
 mod papers;
+mod stacks;
 mod talks;
 mod trials;
-mod views;
 
 use anyhow::anyhow;
-use case::{Case, Met};
+use case::{Case, Clerk, Kind, Subject};
 use draws::chance::Chance;
-use examples::Example;
-use figures::draw_figures;
-use kinds::{KINDS, Kind, What};
-use looks::draw_look;
-use papers::{draw_paper, draw_writing};
+use examples::EXAMPLES;
+use kinds::{CALLS, LOOKS, PAPERS, RUNS, TALKS, TESTS, WRITINGS};
 use std::fmt::Debug;
-use talks::draw_talk;
-use trials::{draw_run, draw_trial};
 
 // How the cases of a run went so far.
 #[derive(Drop)]
 struct Tally {
-    // Whether a case that disagrees was told.
-    told: bool,
-    // How many cases of the kind at hand agree.
-    agreed: u32,
-    // The numbers that the cases of all kinds met.
-    met: Met,
+    clerk: Clerk,
+    // How many kinds were checked.
+    kinds: u64,
+    // How many cases disagree.
+    disagreed: u32,
 }
 
-// Asks both texts; the first case that disagrees is printed with its input.
-fn judge<C: Case + Debug>(
-    rt: &HostRuntime,
-    tally: &mut Tally,
-    kind: &Kind,
-    number: u32,
-    case: &C,
-) -> anyhow::Result<()> {
-    if case.agrees(rt.alloc(), &mut tally.met)? {
-        tally.agreed = tally.agreed.saturating_add(1);
-    } else if !tally.told {
-        tally.told = true;
-        let name = kind.name;
-        println!(rt; "first that disagrees: {name}, case {number}: {case:?}")?;
+impl Tally {
+    // Asks both texts; the first case that disagrees is printed with its input.
+    fn judge<C: Case + Debug>(
+        &mut self,
+        rt: &HostRuntime,
+        name: &str,
+        number: u32,
+        case: &C,
+    ) -> anyhow::Result<bool> {
+        if case.agrees(&mut self.clerk)? {
+            return Ok(true);
+        }
+        if self.disagreed == 0 {
+            println!(rt; "first that disagrees: {name}, case {number}: {case:?}")?;
+        }
+        self.disagreed = self.disagreed.saturating_add(1);
+        Ok(false)
     }
-    Ok(())
-}
 
-// Draws one case of a kind and judges it.
-fn check_case(
-    rt: &HostRuntime,
-    tally: &mut Tally,
-    kind: &Kind,
-    number: u32,
-    chance: &mut Chance,
-) -> anyhow::Result<()> {
-    let heap = rt.alloc();
-    let last = chance.between(kind.last.0, kind.last.1);
-    match kind.what {
-        What::Examples => judge(rt, tally, kind, number, &Example { number }),
-        What::Looks { shape, one_in } => {
-            let case = draw_look(heap, chance, shape, last, one_in)?;
-            judge(rt, tally, kind, number, &case)
-        }
-        What::Calls {
-            shape,
-            stack,
-            calls,
-        } => {
-            let case = draw_trial(heap, chance, shape, last, stack, calls)?;
-            judge(rt, tally, kind, number, &case)
-        }
-        What::Runs {
-            shape,
-            stack,
-            exact,
-        } => {
-            let case = draw_run(heap, chance, shape, last, stack, exact)?;
-            judge(rt, tally, kind, number, &case)
-        }
-        What::Figures { shape } => {
-            let case = draw_figures(heap, chance, shape, last)?;
-            judge(rt, tally, kind, number, &case)
-        }
-        _ => check_paper(rt, tally, kind, number, chance, last),
+    // Ends a kind and prints how many of its cases agree.
+    fn end_kind(
+        &mut self,
+        rt: &HostRuntime,
+        name: &str,
+        agreed: u32,
+        cases: u32,
+    ) -> anyhow::Result<()> {
+        self.kinds = self.kinds.saturating_add(1);
+        println!(rt; "{name}: {agreed} of {cases} agree")?;
+        Ok(())
     }
-}
 
-// The same for the kinds that are about records and texts.
-fn check_paper(
-    rt: &HostRuntime,
-    tally: &mut Tally,
-    kind: &Kind,
-    number: u32,
-    chance: &mut Chance,
-    last: u16,
-) -> anyhow::Result<()> {
-    let heap = rt.alloc();
-    match kind.what {
-        What::Papers { shape, damage } => {
-            let case = draw_paper(heap, chance, shape, last, damage)?;
-            judge(rt, tally, kind, number, &case)
+    // Checks the worked examples.
+    fn check_examples(&mut self, rt: &HostRuntime) -> anyhow::Result<()> {
+        let name = "worked examples";
+        let mut agreed = 0u32;
+        for (number, example) in (0..).zip(&EXAMPLES) {
+            if self.judge(rt, name, number, example)? {
+                agreed = agreed.saturating_add(1);
+            }
         }
-        What::Writings { shape } => {
-            let case = draw_writing(heap, chance, shape, last)?;
-            judge(rt, tally, kind, number, &case)
-        }
-        What::Talks {
-            shape,
-            damage,
-            length,
-        } => {
-            let case = draw_talk(heap, chance, shape, last, damage, length)?;
-            judge(rt, tally, kind, number, &case)
-        }
-        _ => Ok(()),
+        self.end_kind(rt, name, agreed, EXAMPLES.len() as u32)
     }
-}
 
-// Checks all cases of a kind, which have a chance of their own, and prints how many agree.
-fn check_kind(rt: &HostRuntime, tally: &mut Tally, kind: &Kind, seed: u64) -> anyhow::Result<()> {
-    let mut chance = Chance::new(seed);
-    tally.agreed = 0;
-    for number in 0..kind.cases {
-        check_case(rt, tally, kind, number, &mut chance)?;
+    // Checks all cases of a kind, which have a chance of their own.
+    fn check_kind<S: Subject>(&mut self, rt: &HostRuntime, kind: &Kind<S>) -> anyhow::Result<()> {
+        let mut chance = Chance::new(self.kinds);
+        let mut agreed = 0u32;
+        for number in 0..kind.cases {
+            let last = chance.between(kind.last.0, kind.last.1);
+            let case = kind.about.draw(rt.alloc(), &mut chance, last)?;
+            if self.judge(rt, kind.name, number, &case)? {
+                agreed = agreed.saturating_add(1);
+            }
+        }
+        self.end_kind(rt, kind.name, agreed, kind.cases)
     }
-    let name = kind.name;
-    let agreed = tally.agreed;
-    let cases = kind.cases;
-    println!(rt; "{name}: {agreed} of {cases} agree")?;
-    Ok(())
-}
 
-// Prints how often each number of a call, a record or a certificate was answered.
-fn print_met(rt: &HostRuntime, met: &Met) -> anyhow::Result<()> {
-    for number in 0..22 {
-        let count = met.count(number);
-        println!(rt; "answered {number}: {count}")?;
+    // Checks some kinds.
+    fn check_kinds<S: Subject>(
+        &mut self,
+        rt: &HostRuntime,
+        kinds: &[Kind<S>],
+    ) -> anyhow::Result<()> {
+        for kind in kinds {
+            self.check_kind(rt, kind)?;
+        }
+        Ok(())
     }
-    Ok(())
+
+    // Prints how often each number of a call, a record or a certificate was answered.
+    fn print_met(&self, rt: &HostRuntime) -> anyhow::Result<()> {
+        for number in 0..22 {
+            let count = self.clerk.count(number);
+            println!(rt; "answered {number}: {count}")?;
+        }
+        Ok(())
+    }
 }
 
 // Checks every kind.
 fn run(rt: &HostRuntime) -> anyhow::Result<()> {
     let mut tally = Tally {
-        told: false,
-        agreed: 0,
-        met: Met::none(),
+        clerk: Clerk::new(rt.alloc()),
+        kinds: 0,
+        disagreed: 0,
     };
-    for (place, kind) in KINDS.iter().enumerate() {
-        check_kind(rt, &mut tally, kind, place as u64)?;
-    }
-    print_met(rt, &tally.met)?;
-    if tally.told {
+    tally.check_examples(rt)?;
+    tally.check_kinds(rt, &LOOKS)?;
+    tally.check_kinds(rt, &CALLS)?;
+    tally.check_kinds(rt, &RUNS)?;
+    tally.check_kinds(rt, &TESTS)?;
+    tally.check_kinds(rt, &PAPERS)?;
+    tally.check_kinds(rt, &WRITINGS)?;
+    tally.check_kinds(rt, &TALKS)?;
+    tally.print_met(rt)?;
+    if tally.disagreed > 0 {
         return Err(anyhow!("some cases disagree"));
     }
     Ok(())

@@ -1,10 +1,8 @@
 // What the command program prints for a record and an input.
-use crate::case::{Case, Met};
-use crate::papers::draw_record;
+use crate::case::{Case, Clerk, Subject};
+use crate::papers::Papers;
 use draws::chance::Chance;
-use draws::damage::Damage;
 use draws::scripts::{draw_input, fit_input};
-use draws::sheets::Shape;
 use naive::records::sheet_of;
 use naive_texts::transcript::transcript;
 use std::alloc::{AllocError, Global};
@@ -18,32 +16,34 @@ pub struct Talk {
 }
 
 impl Case for Talk {
-    fn agrees(&self, heap: Global, _met: &mut Met) -> Result<bool, AllocError> {
-        let text = print(heap, &self.record, &self.input)?;
-        let expected = transcript(heap, &self.record, &self.input)?;
+    fn agrees(&self, clerk: &mut Clerk) -> Result<bool, AllocError> {
+        let text = print(clerk.heap, &self.record, &self.input)?;
+        let expected = transcript(clerk.heap, &self.record, &self.input)?;
         let refused = expected.as_str().starts_with("sheet");
-        Ok(text.as_bytes() == expected.as_bytes() && is_accepted(&self.record) != refused)
+        Ok(text == expected && is_accepted(&self.record) != refused)
     }
 }
 
 // The most lines that are drawn for an input.
 const LINES: u16 = 24;
 
-// An input of some lines; where a length is given, cut or filled up to it.
-pub fn draw_talk(
-    heap: Global,
-    chance: &mut Chance,
-    shape: Shape,
-    last: u16,
-    damage: Damage,
-    length: Option<usize>,
-) -> Result<Talk, AllocError> {
-    let record = draw_record(heap, chance, shape, last, damage)?;
-    let sheet = sheet_of(heap, &record)?;
-    let count = chance.between(0, LINES);
-    let mut input = draw_input(heap, chance, &sheet, count)?;
-    if let Some(length) = length {
-        fit_input(&mut input, length)?;
+// The command program's text over a record; where a length is given, the input is cut or filled up to it.
+pub struct Talks {
+    pub over: Papers,
+    pub length: Option<usize>,
+}
+
+impl Subject for Talks {
+    type Drawn = Talk;
+
+    fn draw(&self, heap: Global, chance: &mut Chance, last: u16) -> Result<Talk, AllocError> {
+        let record = self.over.draw_record(heap, chance, last)?;
+        let sheet = sheet_of(heap, &record)?;
+        let count = chance.between(0, LINES);
+        let mut input = draw_input(heap, chance, &sheet, count)?;
+        if let Some(length) = self.length {
+            fit_input(&mut input, length)?;
+        }
+        Ok(Talk { record, input })
     }
-    Ok(Talk { record, input })
 }

@@ -1,26 +1,18 @@
 // The pass over the touches against the naive way over all positions and all touches, on tables drawn by chance.
 #![tactic(auto)]
 
-mod chance;
-mod compare;
-mod naive;
 mod tables;
 
-use caps::sound::PLACES;
-use caps::{Line, Touch};
-use chance::Chance;
-use compare::do_agree;
-use tables::{Kind, draw_free, draw_lawful, touch_some};
+use draws::chance::Chance;
+use tables::{Heights, Kind};
 use terms::limits::{LAST_MAX, SLACK_MAX, SLOPE_MAX};
+use views::looks::Look;
 
 const LAST: u16 = LAST_MAX as u16;
 
 const SLOPE: u16 = SLOPE_MAX as u16;
 
 const SLACK: u16 = SLACK_MAX as u16;
-
-// A height for each position of the longest bed.
-const SHEET: usize = LAST_MAX as usize + 1;
 
 const KINDS: [Kind; 6] = [
     Kind {
@@ -30,7 +22,7 @@ const KINDS: [Kind; 6] = [
         slope: (1, 9),
         slack: (0, 9),
         draws: (0, 12),
-        lawful: true,
+        heights: Heights::Lawful,
     },
     Kind {
         name: "full beds",
@@ -39,7 +31,7 @@ const KINDS: [Kind; 6] = [
         slope: (1, 4),
         slack: (0, 4),
         draws: (30, 60),
-        lawful: true,
+        heights: Heights::Lawful,
     },
     Kind {
         name: "long slopes",
@@ -48,7 +40,7 @@ const KINDS: [Kind; 6] = [
         slope: (1, 300),
         slack: (0, SLACK),
         draws: (1, 40),
-        lawful: true,
+        heights: Heights::Lawful,
     },
     Kind {
         name: "unlawful heights",
@@ -57,7 +49,7 @@ const KINDS: [Kind; 6] = [
         slope: (1, 2_000),
         slack: (0, 2_000),
         draws: (1, 20),
-        lawful: false,
+        heights: Heights::Free,
     },
     Kind {
         name: "steepest lines",
@@ -66,7 +58,7 @@ const KINDS: [Kind; 6] = [
         slope: (39_990, SLOPE),
         slack: (39_990, SLACK),
         draws: (1, 6),
-        lawful: false,
+        heights: Heights::Free,
     },
     Kind {
         name: "largest tables",
@@ -75,62 +67,57 @@ const KINDS: [Kind; 6] = [
         slope: (1, 60),
         slack: (0, 60),
         draws: (300, 600),
-        lawful: true,
+        heights: Heights::Lawful,
     },
 ];
 
-// Draws one table and says whether the two ways agree on it. The first that does not is printed with its input.
-fn check_one(
-    rt: &HostRuntime,
-    kind: &Kind,
-    chance: &mut Chance,
-    told: &mut bool,
-) -> anyhow::Result<bool> {
-    let line = kind.line(chance);
-    let mut sheet = [0; SHEET];
-    if kind.lawful {
-        draw_lawful(chance, line, &mut sheet);
-    } else {
-        draw_free(chance, &mut sheet);
-    }
-    let mut table = [Touch {
-        position: 0,
-        height: 0,
-    }; PLACES];
-    let places = &mut table[..];
-    let draws = chance.between(kind.draws.0, kind.draws.1);
-    let count = touch_some(chance, line, &sheet, draws, places);
-    let touches = &places[0..count];
-    let tolerance = chance.between(0, 300);
-    let agree = do_agree(line, touches, tolerance);
-    if !agree && !*told {
-        *told = true;
-        println!(rt; "first that disagrees: {line:?}, tolerance {tolerance}, {touches:?}")?;
-    }
-    Ok(agree)
+// How the tables of a run went so far.
+#[derive(Drop)]
+struct Tally {
+    disagreed: u32,
 }
 
-// How many tables of a kind agree.
-fn check_kind(
-    rt: &HostRuntime,
-    kind: &Kind,
-    chance: &mut Chance,
-    told: &mut bool,
-) -> anyhow::Result<u32> {
-    let mut agreed = 0;
-    for _ in 0..kind.tables {
-        if check_one(rt, kind, chance, told)? {
-            agreed += 1;
+impl Tally {
+    // Whether the two ways agree on a table. The first that they do not agree on is printed.
+    fn judge(&mut self, rt: &HostRuntime, table: &Look) -> anyhow::Result<bool> {
+        if table.do_texts_agree(rt.alloc())? {
+            return Ok(true);
         }
+        if self.disagreed == 0 {
+            let Look {
+                line,
+                touches,
+                tolerance,
+            } = table;
+            println!(rt; "first that disagrees: {line:?}, tolerance {tolerance}, {touches:?}")?;
+        }
+        self.disagreed = self.disagreed.saturating_add(1);
+        Ok(false)
     }
-    Ok(agreed)
+
+    // How many tables of a kind agree.
+    fn check_kind(
+        &mut self,
+        rt: &HostRuntime,
+        kind: &Kind,
+        chance: &mut Chance,
+    ) -> anyhow::Result<u32> {
+        let mut agreed = 0u32;
+        for _ in 0..kind.tables {
+            let table = kind.draw(rt.alloc(), chance)?;
+            if self.judge(rt, &table)? {
+                agreed = agreed.saturating_add(1);
+            }
+        }
+        Ok(agreed)
+    }
 }
 
 fn run(rt: &HostRuntime) -> anyhow::Result<()> {
     let mut chance = Chance::new(1);
-    let mut told = false;
+    let mut tally = Tally { disagreed: 0 };
     for kind in &KINDS {
-        let agreed = check_kind(rt, kind, &mut chance, &mut told)?;
+        let agreed = tally.check_kind(rt, kind, &mut chance)?;
         let name = kind.name;
         let tables = kind.tables;
         println!(rt; "{name}: {agreed} of {tables} tables agree")?;

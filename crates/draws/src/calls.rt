@@ -1,6 +1,6 @@
 // Openings and lists of calls, refused ones among them.
 use crate::chance::Chance;
-use naive::records::Sheet;
+use naive::laws::Sheet;
 use naive::survey::Call;
 use naive::terms::count_of;
 use std::alloc::{AllocError, Global};
@@ -55,9 +55,5 @@ pub fn draw_calls(
     sheet: &Sheet,
     count: u16,
 ) -> Result<Vec<Call>, AllocError> {
-    let mut calls = Vec::new(heap);
-    for _ in 0..count {
-        calls.push(draw_call(chance, sheet))?;
-    }
-    Ok(calls)
+    (0..count).map(|_| draw_call(chance, sheet)).collect(heap)
 }

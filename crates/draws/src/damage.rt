@@ -48,11 +48,9 @@ fn set_bit(bytes: &mut [u8], i: usize, one: bool) {
 }
 
 // Sets the bits of a field to a value.
-fn set_field(bytes: &mut [u8], from: usize, width: usize, value: u32) {
-    for k in 0..width {
-        let shift = width.wrapping_sub(1).wrapping_sub(k) as u64;
-        let one = (u64::from(value) >> (shift % 64)) & 1 == 1;
-        set_bit(bytes, from.wrapping_add(k), one);
+fn set_field(bytes: &mut [u8], from: usize, width: u32, value: u32) {
+    for (k, i) in (0..width).rev().zip(from..) {
+        set_bit(bytes, i, value.wrapping_shr(k) & 1 == 1);
     }
 }
 

@@ -1,50 +1,45 @@
 // Inputs of the command program.
 use crate::calls::draw_calls;
 use crate::chance::Chance;
-use naive::records::Sheet;
+use naive::laws::Sheet;
 use naive::survey::Call;
 use std::alloc::{AllocError, Global};
 
 // Lines that are near a command and none.
-fn odd_line(k: u32) -> &'static str {
-    match k {
-        0 => "High",
-        1 => "at",
-        2 => "at ",
-        3 => "at  3",
-        4 => "at 123456",
-        5 => "at -1",
-        6 => "run +1",
-        7 => "run 1 ",
-        8 => " high",
-        9 => "high ",
-        10 => "tol\t3",
-        11 => "ask\r",
-        12 => "left 2",
-        13 => "tol 3a",
-        14 => "hig",
-        15 => "highs",
-        16 => "at3",
-        17 => "tol 000000",
-        18 => "?",
-        19 => "\u{0}",
-        20 => "run 1.5",
-        _ => "asks",
-    }
-}
+const ODD_LINES: [&str; 22] = [
+    "High",
+    "at",
+    "at ",
+    "at  3",
+    "at 123456",
+    "at -1",
+    "run +1",
+    "run 1 ",
+    " high",
+    "high ",
+    "tol\t3",
+    "ask\r",
+    "left 2",
+    "tol 3a",
+    "hig",
+    "highs",
+    "at3",
+    "tol 000000",
+    "?",
+    "\u{0}",
+    "run 1.5",
+    "asks",
+];
 
-// The text of a call; numbers of more than five digits make it no command.
-fn call_text(heap: Global, call: Call, zeros: bool) -> Result<String, AllocError> {
+// The text of a call, its number filled up by zeros to a width; numbers of more than five digits make it no command.
+fn call_text(heap: Global, call: Call, width: usize) -> Result<String, AllocError> {
     match call {
         Call::High => format!(in heap; "high"),
         Call::Left => format!(in heap; "left"),
         Call::Ask => format!(in heap; "ask"),
-        Call::At(n) if zeros => format!(in heap; "at {n:05}"),
-        Call::Run(n) if zeros => format!(in heap; "run {n:05}"),
-        Call::Tol(n) if zeros => format!(in heap; "tol {n:05}"),
-        Call::At(n) => format!(in heap; "at {n}"),
-        Call::Run(n) => format!(in heap; "run {n}"),
-        Call::Tol(n) => format!(in heap; "tol {n}"),
+        Call::At(n) => format!(in heap; "at {n:0width$}"),
+        Call::Run(n) => format!(in heap; "run {n:0width$}"),
+        Call::Tol(n) => format!(in heap; "tol {n:0width$}"),
     }
 }
 
@@ -67,9 +62,9 @@ fn push_line(
     match chance.below(10) {
         0 => Ok(()),
         1 => push_noise(chance, input),
-        2 | 3 => input.extend_from_slice(odd_line(chance.below(22)).as_bytes()),
-        4 => input.extend_from_slice(call_text(heap, call, true)?.as_bytes()),
-        _ => input.extend_from_slice(call_text(heap, call, false)?.as_bytes()),
+        2 | 3 => input.extend_from_slice(ODD_LINES[chance.below(22) as usize].as_bytes()),
+        4 => input.extend_from_slice(call_text(heap, call, 5)?.as_bytes()),
+        _ => input.extend_from_slice(call_text(heap, call, 0)?.as_bytes()),
     }
 }
 
@@ -91,12 +86,14 @@ pub fn draw_input(
     Ok(input)
 }
 
+// The line that fills an input up.
+const FILLER: [u8; 5] = *b"high\n";
+
 // The same input, cut or filled up with `high` lines to a length.
 pub fn fit_input(input: &mut Vec<u8>, length: usize) -> Result<(), AllocError> {
     input.push(0x0A)?;
-    for k in input.len()..length {
-        input.push(*b"high\n".get(k % 5).unwrap_or(&0))?;
-    }
+    let from = input.len();
+    input.extend((from..length).map(|k| FILLER[k % FILLER.len()]))?;
     input.truncate(length);
     Ok(())
 }

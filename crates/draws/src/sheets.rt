@@ -1,6 +1,6 @@
 // Sheets of every kind.
 use crate::chance::Chance;
-use naive::records::Sheet;
+use naive::laws::Sheet;
 use naive::terms::{HIGHEST, MARK};
 use std::alloc::{AllocError, Global};
 
@@ -34,43 +34,26 @@ struct Pen {
 
 // x, kept within the limits of heights.
 fn kept(x: i64) -> i64 {
-    x.max(-HIGHEST).min(HIGHEST)
+    x.clamp(-HIGHEST, HIGHEST)
 }
 
 // A slope for a sheet.
 fn draw_slope(chance: &mut Chance, shape: Shape) -> u16 {
-    let most = match chance.below(4) {
-        0 => 3,
-        1 => 40,
-        2 => 400,
-        _ => 4_000,
-    };
-    if shape != Shape::Extreme {
-        return chance.between(1, most);
-    }
-    match chance.below(3) {
-        0 => 1,
-        1 => 39_999,
-        _ => 40_000,
+    let most = [3, 40, 400, 4_000][chance.below(4) as usize];
+    if shape == Shape::Extreme {
+        [1, 39_999, 40_000][chance.below(3) as usize]
+    } else {
+        chance.between(1, most)
     }
 }
 
 // A slack for a sheet.
 fn draw_slack(chance: &mut Chance, shape: Shape) -> u16 {
     if shape == Shape::Extreme {
-        return match chance.below(4) {
-            0 => 0,
-            1 => 1,
-            2 => 39_999,
-            _ => 40_000,
-        };
+        return [0, 1, 39_999, 40_000][chance.below(4) as usize];
     }
-    match chance.below(4) {
-        0 => 0,
-        1 => chance.between(0, 9),
-        2 => chance.between(0, 300),
-        _ => chance.between(0, 9_000),
-    }
+    let most = [0, 9, 300, 9_000][chance.below(4) as usize];
+    chance.between(0, most)
 }
 
 // The first height of a sheet.

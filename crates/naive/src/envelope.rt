@@ -1,6 +1,14 @@
 // Caps by every touch, the ceiling by every position, gaps by a walk over the positions.
-use crate::terms::{Line, Touch, room};
+use crate::terms::{Line, Touch};
 use std::alloc::{AllocError, Global};
+use std::ops::RangeInclusive;
+
+// The touches on a line.
+#[derive(Clone, Copy, Debug)]
+pub struct Touches<'a> {
+    pub line: Line,
+    pub list: &'a [Touch],
+}
 
 // A position with its cap.
 #[derive(Clone, Copy, PartialEq, Eq, Debug)]
@@ -17,147 +25,117 @@ pub struct Gap {
     pub summit: Place,
 }
 
-// The touched height of a position.
-pub fn touched_height(touches: &[Touch], x: u32) -> Option<i64> {
-    for touch in touches {
-        if touch.position == x {
-            return Some(touch.height);
+// The higher of two places, the first on a tie.
+fn higher(first: Place, second: Place) -> Place {
+    if first.cap >= second.cap {
+        first
+    } else {
+        second
+    }
+}
+
+impl Touches<'_> {
+    // The touched height of a position.
+    pub fn height_at(&self, x: u32) -> Option<i64> {
+        self.list
+            .iter()
+            .find(|touch| touch.position == x)
+            .map(|touch| touch.height)
+    }
+
+    pub fn is_touched(&self, x: u32) -> bool {
+        self.list.iter().any(|touch| touch.position == x)
+    }
+
+    // The smallest, over all touches, of touched height + slope × distance + slack.
+    fn least_reach(&self, x: u32) -> Option<i64> {
+        self.list
+            .iter()
+            .map(|touch| touch.height.wrapping_add(self.line.room(x, touch.position)))
+            .min()
+    }
+
+    // The cap of a position; none before the first touch.
+    pub fn cap(&self, x: u32) -> Option<i64> {
+        self.height_at(x).or_else(|| self.least_reach(x))
+    }
+
+    // The largest cap of positions 0 to last; none before the first touch.
+    pub fn ceiling(&self) -> Option<i64> {
+        (0..=self.line.last).filter_map(|x| self.cap(x)).max()
+    }
+
+    // The touch of the largest height, at the lowest position that has it.
+    pub fn floor(&self) -> Option<Touch> {
+        let largest = self.list.iter().map(|touch| touch.height).max()?;
+        self.list
+            .iter()
+            .copied()
+            .filter(|touch| touch.height == largest)
+            .min_by_key(|touch| touch.position)
+    }
+
+    // Something is touched, and ceiling ≤ floor + tolerance.
+    pub fn is_settled(&self, tolerance: i64) -> bool {
+        match (self.floor(), self.ceiling()) {
+            (Some(floor), Some(ceiling)) => ceiling <= floor.height.wrapping_add(tolerance),
+            _ => false,
         }
     }
-    None
-}
 
-// The smallest, over all touches, of touched height + slope × distance + slack.
-fn least_reach(line: Line, touches: &[Touch], x: u32) -> i64 {
-    let mut least = i64::MAX;
-    for touch in touches {
-        let reach = touch
-            .height
-            .wrapping_add(room(line.slope, line.slack, x, touch.position));
-        least = least.min(reach);
+    // The untouched one of some positions that has the largest cap, the lowest on a tie.
+    fn summit(&self, positions: RangeInclusive<u32>) -> Option<Place> {
+        positions
+            .filter(|x| !self.is_touched(*x))
+            .filter_map(|position| {
+                let cap = self.least_reach(position)?;
+                Some(Place { position, cap })
+            })
+            .reduce(higher)
     }
-    least
-}
 
-// The cap of a position.
-pub fn cap(line: Line, touches: &[Touch], x: u32) -> i64 {
-    match touched_height(touches, x) {
-        Some(height) => height,
-        None => least_reach(line, touches, x),
+    // The untouched position of largest cap, the lowest on a tie; none before the first touch.
+    pub fn highest_untouched(&self) -> Option<Place> {
+        self.summit(0..=self.line.last)
     }
-}
 
-// The largest cap of positions 0 to last; none before the first touch.
-pub fn ceiling(line: Line, touches: &[Touch]) -> Option<i64> {
-    if touches.is_empty() {
-        return None;
+    // Whether a position is untouched, and is 0 or has a touched one before it.
+    fn is_gap_start(&self, x: u32) -> bool {
+        !self.is_touched(x)
+            && x.checked_sub(1)
+                .is_none_or(|before| self.is_touched(before))
     }
-    let mut largest = i64::MIN;
-    for x in 0..=line.last {
-        largest = largest.max(cap(line, touches, x));
-    }
-    Some(largest)
-}
 
-// The touch of the largest height, at the lowest position that has it.
-pub fn floor(touches: &[Touch]) -> Option<Touch> {
-    let mut best: Option<Touch> = None;
-    for touch in touches {
-        best = match best {
-            Some(held) if is_at_least(held, *touch) => Some(held),
-            _ => Some(*touch),
+    // The gap that starts at a position.
+    fn gap_from(&self, from: u32) -> Option<Gap> {
+        let to = (from..=self.line.last)
+            .take_while(|x| !self.is_touched(*x))
+            .last()?;
+        let summit = self.summit(from..=to)?;
+        Some(Gap { from, to, summit })
+    }
+
+    // Every gap, in rising order; none before the first touch, since there is no cap then.
+    pub fn gaps(&self, heap: Global) -> Result<Vec<Gap>, AllocError> {
+        (0..=self.line.last)
+            .filter(|x| self.is_gap_start(*x))
+            .filter_map(|x| self.gap_from(x))
+            .collect(heap)
+    }
+
+    // The place of largest cap in the lowest gap whose largest cap exceeds floor + tolerance.
+    pub fn lowest_open(&self, heap: Global, tolerance: i64) -> Result<Option<Place>, AllocError> {
+        let Some(floor) = self.floor() else {
+            return Ok(None);
         };
+        let bound = floor.height.wrapping_add(tolerance);
+        let gaps = self.gaps(heap)?;
+        Ok(
+            gaps.iter()
+                .map(|gap| gap.summit)
+                .find(|summit| summit.cap > bound),
+        )
     }
-    best
-}
-
-// Whether the first touch is higher, or as high and at a lower position.
-fn is_at_least(first: Touch, second: Touch) -> bool {
-    first.height > second.height
-        || (first.height == second.height && first.position < second.position)
-}
-
-// Something is touched, and ceiling ≤ floor + tolerance.
-pub fn is_settled(line: Line, touches: &[Touch], tolerance: i64) -> bool {
-    match (floor(touches), ceiling(line, touches)) {
-        (Some(floor), Some(ceiling)) => ceiling <= floor.height.wrapping_add(tolerance),
-        _ => false,
-    }
-}
-
-// The higher of the two, the one held on a tie.
-fn higher(held: Option<Place>, next: Place) -> Place {
-    match held {
-        Some(place) if place.cap >= next.cap => place,
-        _ => next,
-    }
-}
-
-// The untouched position of largest cap, the lowest on a tie.
-pub fn highest_untouched(line: Line, touches: &[Touch]) -> Option<Place> {
-    let mut best = None;
-    for position in 0..=line.last {
-        if touched_height(touches, position).is_none() {
-            let cap = least_reach(line, touches, position);
-            best = Some(higher(best, Place { position, cap }));
-        }
-    }
-    best
-}
-
-// The gap so far with one more untouched position at its end.
-fn extended(gap: Option<Gap>, next: Place) -> Gap {
-    match gap {
-        Some(gap) => Gap {
-            from: gap.from,
-            to: next.position,
-            summit: higher(Some(gap.summit), next),
-        },
-        None => Gap {
-            from: next.position,
-            to: next.position,
-            summit: next,
-        },
-    }
-}
-
-// Every gap, in rising order; none before the first touch, since there is no cap then.
-pub fn gaps(heap: Global, line: Line, touches: &[Touch]) -> Result<Vec<Gap>, AllocError> {
-    let mut gaps = Vec::new(heap);
-    if touches.is_empty() {
-        return Ok(gaps);
-    }
-    let mut gap = None;
-    for position in 0..=line.last {
-        if touched_height(touches, position).is_some() {
-            gaps.extend(gap)?;
-            gap = None;
-        } else {
-            let cap = least_reach(line, touches, position);
-            gap = Some(extended(gap, Place { position, cap }));
-        }
-    }
-    gaps.extend(gap)?;
-    Ok(gaps)
-}
-
-// The place of largest cap in the lowest gap whose largest cap exceeds floor + tolerance.
-pub fn lowest_open(
-    heap: Global,
-    line: Line,
-    touches: &[Touch],
-    tolerance: i64,
-) -> Result<Option<Place>, AllocError> {
-    let Some(floor) = floor(touches) else {
-        return Ok(None);
-    };
-    let bound = floor.height.wrapping_add(tolerance);
-    for gap in &gaps(heap, line, touches)? {
-        if gap.summit.cap > bound {
-            return Ok(Some(gap.summit));
-        }
-    }
-    Ok(None)
 }
 
 // The least distance of two touches of a search.
@@ -165,18 +143,15 @@ fn spacing(line: Line, tolerance: i64) -> i64 {
     if line.slack > tolerance || line.slope < 1 {
         return 1;
     }
-    1i64.wrapping_add(
-        tolerance
-            .wrapping_sub(line.slack)
-            .checked_div(line.slope)
-            .unwrap_or(0),
-    )
+    let spare = tolerance.wrapping_sub(line.slack);
+    spare
+        .checked_div(line.slope)
+        .map_or(1, |more| more.wrapping_add(1))
 }
 
 // The most touches that a search can make: last ÷ d rounded down, plus one.
 pub fn most_touches(line: Line, tolerance: i64) -> i64 {
-    let spaces = i64::from(line.last)
+    i64::from(line.last)
         .checked_div(spacing(line, tolerance))
-        .unwrap_or(0);
-    spaces.wrapping_add(1)
+        .map_or(1, |spaces| spaces.wrapping_add(1))
 }

@@ -1,6 +1,6 @@
 // What gauges mean: a line, and a reading for each position that is asked.
-use crate::laws::readable;
-use crate::terms::{Fault, HIGHEST, Line, MOST, count_of};
+use crate::laws::{Sheet, check_name, is_height};
+use crate::terms::{Cause, Denial, Fault, HIGHEST, Line, MOST, count_of};
 use std::alloc::{AllocError, Global};
 
 // A height or a fault.
@@ -20,73 +20,32 @@ pub struct Meaning {
     pub spots: Vec<Spot>,
 }
 
-// How two gauges are joined.
-#[derive(Clone, Copy, PartialEq, Eq, Debug)]
-pub enum Joint {
-    Higher,
-    Sum,
-}
-
-impl Meaning {
-    // The reading of a position; none where it was not asked.
-    pub fn read(&self, position: u32) -> Option<Reading> {
-        for spot in &self.spots {
-            if spot.position == position {
-                return Some(spot.reading);
-            }
-        }
-        None
-    }
-}
-
-// A fault of a gauge that a position is beyond.
-fn beyond(position: u32, name: u8) -> Fault {
+// A fault of the gauge of a name, 0 for a layer.
+fn fault(cause: Cause, position: u32, name: u8) -> Fault {
     Fault {
-        cause: 1,
+        cause,
         position,
         name,
         layers: 0,
     }
 }
 
-// The reading of a list of heights.
-fn list_reading(heights: &[i64], name: u8, position: u32) -> Reading {
-    if position >= count_of(heights) {
-        return Err(beyond(position, name));
+impl Sheet {
+    // The reading of a table, or of a record that says this sheet.
+    fn reading(&self, name: u8, position: u32) -> Reading {
+        if position >= count_of(&self.heights) {
+            return Err(fault(Cause::BeyondLast, position, name));
+        }
+        self.readable(position)
+            .ok_or(fault(Cause::NoReading, position, name))
     }
-    match readable(heights, position) {
-        Some(height) => Ok(height),
-        None => Err(Fault {
-            cause: 2,
-            position,
-            name,
-            layers: 0,
-        }),
-    }
-}
 
-// A table, or a record that says these heights.
-pub fn list_meaning(
-    heap: Global,
-    slope: i64,
-    slack: i64,
-    heights: &[i64],
-    name: u8,
-    asked: &[u32],
-) -> Result<Meaning, AllocError> {
-    let mut spots = Vec::new(heap);
-    for position in asked {
-        spots.push(Spot {
-            position: *position,
-            reading: list_reading(heights, name, *position),
-        })?;
+    // What the table or the record of a name means.
+    pub fn meaning(&self, heap: Global, name: u8, asked: &[u32]) -> Result<Meaning, AllocError> {
+        Meaning::of(heap, self.line(), asked, |position| {
+            self.reading(name, position)
+        })
     }
-    let line = Line {
-        last: count_of(heights).saturating_sub(1),
-        slope,
-        slack,
-    };
-    Ok(Meaning { line, spots })
 }
 
 // The figures of a tent.
@@ -100,31 +59,41 @@ pub struct Tent {
 }
 
 impl Tent {
+    // The line of a tent: no slack.
+    fn line(&self) -> Line {
+        Line {
+            last: self.last,
+            slope: self.slope,
+            slack: 0,
+        }
+    }
+
+    // 2, 3, 7 (a mark is no height either, and no position is told), 9, 11: a tent's figures.
+    pub fn check(&self) -> Result<(), Denial> {
+        self.line().check()?;
+        if !is_height(self.height) {
+            return Err(Denial::bare(7));
+        }
+        check_name(self.name)?;
+        if self.crown > self.last {
+            return Err(Denial::bare(11));
+        }
+        Ok(())
+    }
+
     // The crown's height less slope × distance from the crown, but at least −20,000.
     fn reading(&self, position: u32) -> Reading {
         if position > self.last {
-            return Err(beyond(position, self.name));
+            return Err(fault(Cause::BeyondLast, position, self.name));
         }
         let distance = i64::from(position.abs_diff(self.crown));
         let fallen = self.height.wrapping_sub(self.slope.wrapping_mul(distance));
         Ok(fallen.max(-HIGHEST))
     }
 
-    // What the tent means: no slack, all readable.
+    // What the tent means: all is readable.
     pub fn meaning(&self, heap: Global, asked: &[u32]) -> Result<Meaning, AllocError> {
-        let mut spots = Vec::new(heap);
-        for position in asked {
-            spots.push(Spot {
-                position: *position,
-                reading: self.reading(*position),
-            })?;
-        }
-        let line = Line {
-            last: self.last,
-            slope: self.slope,
-            slack: 0,
-        };
-        Ok(Meaning { line, spots })
+        Meaning::of(heap, self.line(), asked, |position| self.reading(position))
     }
 }
 
@@ -138,114 +107,134 @@ fn raised(fault: Fault) -> Fault {
 
 // The greatest multiple of the step at or below a height, found by going down from it.
 fn multiple_below(height: i64, step: i64) -> i64 {
-    for down in 0..step {
-        let candidate = height.wrapping_sub(down);
-        if candidate.checked_rem(step) == Some(0) {
-            return candidate;
-        }
-    }
-    height
+    (0..step)
+        .map(|down| height.wrapping_sub(down))
+        .find(|candidate| candidate.checked_rem(step) == Some(0))
+        .unwrap_or(height)
 }
 
-// What a layer over one gauge does to a height: negated where there is no step, else rounded down to a multiple.
-fn altered(height: i64, step: Option<i64>) -> i64 {
-    match step {
-        None => height.wrapping_neg(),
-        Some(step) => multiple_below(height, step).max(-HIGHEST),
-    }
-}
-
-// The readings of a layer over one gauge.
-fn altered_spots(
-    heap: Global,
-    lower: &Meaning,
-    step: Option<i64>,
-) -> Result<Vec<Spot>, AllocError> {
-    let mut spots = Vec::new(heap);
-    for spot in &lower.spots {
-        let reading = match spot.reading {
-            Ok(height) => Ok(altered(height, step)),
-            Err(fault) => Err(raised(fault)),
-        };
-        spots.push(Spot {
-            position: spot.position,
-            reading,
-        })?;
-    }
-    Ok(spots)
-}
-
-// Flip: the negated height; the line stays.
-pub fn flip(heap: Global, lower: &Meaning) -> Result<Meaning, AllocError> {
-    Ok(Meaning {
-        line: lower.line,
-        spots: altered_spots(heap, lower, None)?,
-    })
-}
-
-// Coarse: heights rounded down to a multiple of the step; the slack grows by the step − 1, at most 40,000.
-pub fn coarse(heap: Global, lower: &Meaning, step: i64) -> Result<Meaning, AllocError> {
-    let slack = lower
-        .line
-        .slack
-        .wrapping_add(step)
-        .wrapping_sub(1)
-        .min(MOST);
-    Ok(Meaning {
-        line: Line {
-            slack,
-            ..lower.line
-        },
-        spots: altered_spots(heap, lower, Some(step))?,
-    })
-}
-
-// The height of two joined: the greater, or the sum kept within −20,000 and 20,000.
-fn joined_height(joint: Joint, first: i64, second: i64) -> i64 {
-    match joint {
-        Joint::Higher => first.max(second),
-        Joint::Sum => first.wrapping_add(second).max(-HIGHEST).min(HIGHEST),
-    }
-}
-
-// The slope or slack of two joined: the greater, or the sum but at most 40,000.
-fn joined_bound(joint: Joint, first: i64, second: i64) -> i64 {
-    match joint {
-        Joint::Higher => first.max(second),
-        Joint::Sum => first.wrapping_add(second).min(MOST),
-    }
-}
-
-// The reading of two joined: beyond their own last position a fault of the layer, else the first is read, then the second.
-fn joined_reading(joint: Joint, last: u32, first: Spot, second: Spot) -> Reading {
+// The heights of two gauges at one position: beyond their last one a fault of the layer, else the first is read, then the second.
+fn both_heights(last: u32, first: Spot, second: Spot) -> Result<(i64, i64), Fault> {
     if first.position > last {
-        return Err(beyond(first.position, 0));
+        return Err(fault(Cause::BeyondLast, first.position, 0));
     }
-    match (first.reading, second.reading) {
-        (Err(fault), _) => Err(raised(fault)),
-        (_, Err(fault)) => Err(raised(fault)),
-        (Ok(x), Ok(y)) => Ok(joined_height(joint, x, y)),
-    }
+    let x = first.reading.map_err(raised)?;
+    let y = second.reading.map_err(raised)?;
+    Ok((x, y))
 }
 
-// Higher or Sum of two gauges that were asked the same positions.
-pub fn joined(
-    heap: Global,
-    joint: Joint,
-    first: &Meaning,
-    second: &Meaning,
-) -> Result<Meaning, AllocError> {
-    let line = Line {
-        last: first.line.last.min(second.line.last),
-        slope: joined_bound(joint, first.line.slope, second.line.slope),
-        slack: joined_bound(joint, first.line.slack, second.line.slack),
-    };
-    let mut spots = Vec::new(heap);
-    for (a, b) in first.spots.iter().zip(second.spots.iter()) {
-        spots.push(Spot {
-            position: a.position,
-            reading: joined_reading(joint, line.last, *a, *b),
-        })?;
+impl Meaning {
+    // What a gauge of a line means that has this reading at each position.
+    fn of<R: Fn(u32) -> Reading>(
+        heap: Global,
+        line: Line,
+        asked: &[u32],
+        reading: R,
+    ) -> Result<Meaning, AllocError>
+        requires { R.IsAlwaysCallable reading }
+    {
+        let spots = asked
+            .iter()
+            .map(|position| Spot {
+                position: *position,
+                reading: reading(*position),
+            })
+            .collect(heap)?;
+        Ok(Meaning { line, spots })
     }
-    Ok(Meaning { line, spots })
+
+    // The reading of a position; none where it was not asked.
+    pub fn read(&self, position: u32) -> Option<Reading> {
+        self.spots
+            .iter()
+            .find(|spot| spot.position == position)
+            .map(|spot| spot.reading)
+    }
+
+    // The spots of a layer that makes its readings of those below.
+    fn altered<F: Fn(Reading) -> Reading>(
+        &self,
+        heap: Global,
+        alter: F,
+    ) -> Result<Vec<Spot>, AllocError>
+        requires { F.IsAlwaysCallable alter }
+    {
+        self.spots
+            .iter()
+            .map(|spot| Spot {
+                position: spot.position,
+                reading: alter(spot.reading.map_err(raised)),
+            })
+            .collect(heap)
+    }
+
+    // Flip: the negated height; the line stays.
+    pub fn flip(&self, heap: Global) -> Result<Meaning, AllocError> {
+        Ok(Meaning {
+            line: self.line,
+            spots: self.altered(heap, |reading| reading.map(|height| height.wrapping_neg()))?,
+        })
+    }
+
+    // Coarse: heights rounded down to a multiple of the step; the slack grows by the step − 1, at most 40,000.
+    pub fn coarse(&self, heap: Global, step: i64) -> Result<Meaning, AllocError> {
+        let wider = self.line.slack.wrapping_add(step).wrapping_sub(1);
+        Ok(Meaning {
+            line: Line {
+                slack: wider.min(MOST),
+                ..self.line
+            },
+            spots: self.altered(heap, |reading| {
+                reading.map(|height| multiple_below(height, step).max(-HIGHEST))
+            })?,
+        })
+    }
+
+    // The spots of two gauges that were asked the same positions, joined.
+    fn joined<F: Fn(Result<(i64, i64), Fault>) -> Reading>(
+        &self,
+        heap: Global,
+        second: &Meaning,
+        join: F,
+    ) -> Result<Vec<Spot>, AllocError>
+        requires { F.IsAlwaysCallable join }
+    {
+        let last = self.line.last.min(second.line.last);
+        self.spots
+            .iter()
+            .zip(&second.spots)
+            .map(|(a, b)| Spot {
+                position: a.position,
+                reading: join(both_heights(last, *a, *b)),
+            })
+            .collect(heap)
+    }
+
+    // Higher: the greater height; the greater slope and slack.
+    pub fn higher(&self, heap: Global, second: &Meaning) -> Result<Meaning, AllocError> {
+        Ok(Meaning {
+            line: Line {
+                last: self.line.last.min(second.line.last),
+                slope: self.line.slope.max(second.line.slope),
+                slack: self.line.slack.max(second.line.slack),
+            },
+            spots: self.joined(heap, second, |both| both.map(|(x, y)| x.max(y)))?,
+        })
+    }
+
+    // Sum: heights added, kept within −20,000 and 20,000; slopes and slacks added, at most 40,000.
+    pub fn sum(&self, heap: Global, second: &Meaning) -> Result<Meaning, AllocError> {
+        let slope = self.line.slope.wrapping_add(second.line.slope);
+        let slack = self.line.slack.wrapping_add(second.line.slack);
+        Ok(Meaning {
+            line: Line {
+                last: self.line.last.min(second.line.last),
+                slope: slope.min(MOST),
+                slack: slack.min(MOST),
+            },
+            spots: self.joined(heap, second, |both| {
+                both.map(|(x, y)| x.wrapping_add(y).clamp(-HIGHEST, HIGHEST))
+            })?,
+        })
+    }
 }

@@ -1,49 +1,39 @@
 // Sheet records: tested, read and written.
 use crate::bits::{bit, bytes_of, height, number, push_number, put_front};
-use crate::laws::{check_heights, check_line, check_name, check_sheet};
-use crate::terms::{Denial, count_of};
+use crate::laws::{Sheet, check_name};
+use crate::terms::{Denial, Failure, Line};
 use std::alloc::{AllocError, Global};
 
-// A slope, a slack and a list of heights, whether lawful or not.
-#[derive(Drop, PartialEq, Eq, Debug)]
-pub struct Sheet {
-    pub slope: i64,
-    pub slack: i64,
-    pub heights: Vec<i64>,
+// The line that the first three fields of a record say.
+fn line_of(bytes: &[u8]) -> Line {
+    Line {
+        last: u32::try_from(number(bytes, 0, 12)).unwrap_or(0),
+        slope: number(bytes, 12, 16),
+        slack: number(bytes, 28, 16),
+    }
 }
 
-// The last position that a record says.
-pub fn last_of(bytes: &[u8]) -> u32 {
-    u32::try_from(number(bytes, 0, 12)).unwrap_or(0)
-}
-
-// The first bit after the heights.
-fn end_of_fields(last: u32) -> usize {
-    44usize.saturating_add(16usize.saturating_mul(last as usize).saturating_add(16))
+// The first bit of the height of a position.
+fn place_of(position: usize) -> usize {
+    44usize.saturating_add(position.saturating_mul(16))
 }
 
 // What the fields of a record say, whether it is lawful or not.
 pub fn sheet_of(heap: Global, bytes: &[u8]) -> Result<Sheet, AllocError> {
-    let mut heights = Vec::new(heap);
-    for p in 0..=last_of(bytes) as usize {
-        let from = 44usize.saturating_add(p.saturating_mul(16));
-        heights.push(height(bytes, from))?;
-    }
+    let Line { last, slope, slack } = line_of(bytes);
+    let heights = (0..=last as usize)
+        .map(|position| height(bytes, place_of(position)))
+        .collect(heap)?;
     Ok(Sheet {
-        slope: number(bytes, 12, 16),
-        slack: number(bytes, 28, 16),
+        slope,
+        slack,
         heights,
     })
 }
 
 // Whether any bit from a place on is 1.
 fn has_bit_set(bytes: &[u8], from: usize) -> bool {
-    for i in from..bytes.len().saturating_mul(8) {
-        if bit(bytes, i) == 1 {
-            return true;
-        }
-    }
-    false
+    (from..bytes.len().saturating_mul(8)).any(|i| bit(bytes, i) == 1)
 }
 
 // 1 to 6: what can be told before a height is read.
@@ -51,37 +41,30 @@ fn check_shape(bytes: &[u8]) -> Result<(), Denial> {
     if bytes.len() < 6 {
         return Err(Denial::bare(1));
     }
-    let last = last_of(bytes);
-    check_line(last, number(bytes, 12, 16), number(bytes, 28, 16))?;
-    if bytes.len() != end_of_fields(last).div_ceil(8) {
+    let line = line_of(bytes);
+    line.check()?;
+    let end = place_of(line.last as usize).saturating_add(16);
+    if bytes.len() != end.div_ceil(8) {
         return Err(Denial::bare(5));
     }
-    if has_bit_set(bytes, end_of_fields(last)) {
+    if has_bit_set(bytes, end) {
         return Err(Denial::bare(6));
     }
     Ok(())
 }
 
-// 7, 8 and 9: the heights, and the name.
-fn check_content(sheet: &Sheet, name: u8) -> Result<(), Denial> {
-    check_heights(sheet.slope, sheet.slack, &sheet.heights)?;
-    check_name(name)
-}
-
-// The tests of a record as the gauge of a name.
-pub fn check(heap: Global, bytes: &[u8], name: u8) -> Result<Result<(), Denial>, AllocError> {
-    if let Err(denial) = check_shape(bytes) {
-        return Ok(Err(denial));
-    }
-    let sheet = sheet_of(heap, bytes)?;
-    Ok(check_content(&sheet, name))
+// The tests of a record as the gauge of a name: 7, 8 and 9 are those of its heights and of the name.
+pub fn check(heap: Global, bytes: &[u8], name: u8) -> Result<(), Failure> {
+    check_shape(bytes)?;
+    sheet_of(heap, bytes)?.check_heights()?;
+    check_name(name)?;
+    Ok(())
 }
 
 // The record of a sheet.
 pub fn record_of(heap: Global, sheet: &Sheet) -> Result<Vec<u8>, AllocError> {
     let mut bits = Vec::new(heap);
-    let last = count_of(&sheet.heights).saturating_sub(1);
-    push_number(&mut bits, i64::from(last), 12)?;
+    push_number(&mut bits, i64::from(sheet.line().last), 12)?;
     push_number(&mut bits, sheet.slope, 16)?;
     push_number(&mut bits, sheet.slack, 16)?;
     for height in &sheet.heights {
@@ -91,17 +74,9 @@ pub fn record_of(heap: Global, sheet: &Sheet) -> Result<Vec<u8>, AllocError> {
 }
 
 // Writes a sheet's record to the front of a buffer and answers its length: 2, 3, 4, 7, 8, 21.
-pub fn write(
-    heap: Global,
-    buffer: &mut [u8],
-    sheet: &Sheet,
-) -> Result<Result<u64, Denial>, AllocError> {
-    if let Err(denial) = check_sheet(sheet.slope, sheet.slack, &sheet.heights) {
-        return Ok(Err(denial));
-    }
+pub fn write(heap: Global, buffer: &mut [u8], sheet: &Sheet) -> Result<u64, Failure> {
+    sheet.check()?;
     let record = record_of(heap, sheet)?;
-    if !put_front(buffer, &record) {
-        return Ok(Err(Denial::bare(21)));
-    }
-    Ok(Ok(record.len() as u64))
+    let length = put_front(buffer, &record)?;
+    Ok(length)
 }

@@ -1,4 +1,5 @@
 // What is answered.
+use std::alloc::AllocError;
 
 // The highest height; the lowest is its negative.
 pub const HIGHEST: i64 = 20_000;
@@ -12,11 +13,17 @@ pub const MOST: i64 = 40_000;
 // The greatest last position.
 pub const FARTHEST: u32 = 4_000;
 
+// Why a reading has no height.
+#[derive(Clone, Copy, PartialEq, Eq, Debug)]
+pub enum Cause {
+    BeyondLast,
+    NoReading,
+}
+
 // A reading without a height.
 #[derive(Clone, Copy, PartialEq, Eq, Debug)]
 pub struct Fault {
-    // 1 beyond the last position, 2 no reading.
-    pub cause: u8,
+    pub cause: Cause,
     // The position asked.
     pub position: u32,
     // The name of the gauge that failed, 0 for a layer.
@@ -34,7 +41,7 @@ pub enum Told {
     Fault(Fault),
 }
 
-// One of the 22 numbers of refusal, with what it tells.
+// A refusal is one of 22 numbers with what it tells: a number and no name, since this second text states the rules' own numbers.
 #[derive(Clone, Copy, PartialEq, Eq, Debug)]
 pub struct Denial {
     pub number: u8,
@@ -49,13 +56,43 @@ impl Denial {
             told: Told::Nothing,
         }
     }
+}
 
-    // 16, with the fault whole.
-    pub fn of_fault(fault: Fault) -> Denial {
+// 16, with the fault whole.
+impl From<Fault> for Denial {
+    fn from(fault: Fault) -> Denial {
         Denial {
             number: 16,
             told: Told::Fault(fault),
         }
+    }
+}
+
+// Why a call has no answer.
+#[derive(Clone, Copy, PartialEq, Eq)]
+pub enum Failure {
+    Denied(Denial),
+    OutOfMemory,
+}
+
+impl From<Denial> for Failure {
+    fn from(denial: Denial) -> Failure {
+        Failure::Denied(denial)
+    }
+}
+
+impl From<AllocError> for Failure {
+    fn from(_error: AllocError) -> Failure {
+        Failure::OutOfMemory
+    }
+}
+
+// What the rules answer; want of memory, of which they say nothing, is an error beside it.
+pub fn ruled<T>(outcome: Result<T, Failure>) -> Result<Result<T, Denial>, AllocError> {
+    match outcome {
+        Ok(answer) => Ok(Ok(answer)),
+        Err(Failure::Denied(denial)) => Ok(Err(denial)),
+        Err(Failure::OutOfMemory) => Err(AllocError),
     }
 }
 
@@ -74,10 +111,26 @@ pub struct Line {
     pub slack: i64,
 }
 
-// How much heights at two positions may differ.
-pub fn room(slope: i64, slack: i64, p: u32, q: u32) -> i64 {
-    let distance = i64::from(p.abs_diff(q));
-    slope.wrapping_mul(distance).wrapping_add(slack)
+impl Line {
+    // How much heights at two positions may differ.
+    pub fn room(&self, p: u32, q: u32) -> i64 {
+        let distance = i64::from(p.abs_diff(q));
+        self.slope.wrapping_mul(distance).wrapping_add(self.slack)
+    }
+
+    // 2, 3 and 4: the last position, the slope and the slack are in range.
+    pub fn check(&self) -> Result<(), Denial> {
+        if !(1..=FARTHEST).contains(&self.last) {
+            return Err(Denial::bare(2));
+        }
+        if !(1..=MOST).contains(&self.slope) {
+            return Err(Denial::bare(3));
+        }
+        if !(0..=MOST).contains(&self.slack) {
+            return Err(Denial::bare(4));
+        }
+        Ok(())
+    }
 }
 
 // The number of items, as far as it can be told.

@@ -1,8 +1,7 @@
 // The certificate of a survey.
 use naive::bits::{bytes_of, push_number, put_front};
-use naive::envelope::{ceiling, floor};
 use naive::survey::Survey;
-use naive::terms::{Denial, Touch};
+use naive::terms::{Denial, Failure, Touch, count_of};
 use std::alloc::{AllocError, Global};
 
 // Adds last, slope, slack, tolerance, touch count, floor position and ceiling.
@@ -16,7 +15,7 @@ fn push_head(
     push_number(bits, survey.line.slope, 16)?;
     push_number(bits, survey.line.slack, 16)?;
     push_number(bits, survey.tolerance, 16)?;
-    push_number(bits, i64::from(naive::terms::count_of(&survey.touches)), 9)?;
+    push_number(bits, i64::from(count_of(&survey.touches)), 9)?;
     push_number(bits, i64::from(floor.position), 12)?;
     push_number(bits, ceiling, 17)
 }
@@ -33,23 +32,12 @@ fn bytes(heap: Global, survey: &Survey, floor: Touch, ceiling: i64) -> Result<Ve
 }
 
 // Writes the certificate to the front of a buffer and answers its length: 19, 20, 21.
-pub fn certify(
-    heap: Global,
-    survey: &Survey,
-    buffer: &mut [u8],
-) -> Result<Result<u64, Denial>, AllocError> {
-    let (Some(floor), Some(ceiling)) = (
-        floor(&survey.touches),
-        ceiling(survey.line, &survey.touches),
-    ) else {
-        return Ok(Err(Denial::bare(19)));
-    };
-    if ceiling > floor.height.wrapping_add(survey.tolerance) {
-        return Ok(Err(Denial::bare(20)));
+pub fn certify(heap: Global, survey: &Survey, buffer: &mut [u8]) -> Result<u64, Failure> {
+    let report = survey.ask()?;
+    if !report.settled {
+        return Err(Failure::from(Denial::bare(20)));
     }
-    let certificate = bytes(heap, survey, floor, ceiling)?;
-    if !put_front(buffer, &certificate) {
-        return Ok(Err(Denial::bare(21)));
-    }
-    Ok(Ok(certificate.len() as u64))
+    let certificate = bytes(heap, survey, report.floor, report.ceiling)?;
+    let length = put_front(buffer, &certificate)?;
+    Ok(length)
 }
