@@ -70,4 +70,11 @@ impl<'a> Record<'a> {
     {
         Record { bytes, name }
     }
+
+    // The bytes of the record.
+    pub fn bytes(&self) -> &'a [u8]
+        ensures { result.now ≡ self.now.bytes.now }
+    {
+        self.bytes
+    }
 }
