@@ -6,8 +6,8 @@ use Rattle.texts.specs.Words.{words}
 use Rattle.texts.specs.Said.{Figures, figures, sheet_said, Answers}
 use Rattle.records.specs.Sheet.{sheet_with, record_of}
 use Rattle.records.specs.Verdict.{verdict_of}
-use Rattle.sheets.specs.declared.pack.NoRecord.{NoRecord}
-use Rattle.sheets.specs.declared.pack.NoRecord.TheVariants as made
+use Rattle.sheets.specs.declared.failure.Failure.{Failure}
+use Rattle.sheets.specs.declared.failure.Failure.TheVariants as made
 use Rattle.sheets.specs.Packs.{PackedAs}
 use Rattle.accounts.specs.declared.packing.NotPacked.{NotPacked}
 use Rattle.accounts.specs.Packings.{unsaid, unmade, sheet_with_figures, by_verdict, record_with, record_said, PacksText}
@@ -28,11 +28,11 @@ module _ (bytes : List ℕ) (s : Figures) (said : sheet_said (words bytes) ≡ O
   with_verdict : record_said bytes ≡ by_verdict (verdict_of (sheet_with_figures s)) (record_of (sheet_with_figures s))
   with_verdict = ap record_with said
 
-  refused : (e : NoRecord) → PackedAs s.slope s.slack s.heights (Err e) → PacksText bytes (Err (unmade e))
+  refused : (e : Failure) → PackedAs s.slope s.slack s.heights (Err e) → PacksText bytes (Err (unmade e))
   refused (made.Refused r) p = with_verdict ∙ ap (λ v. by_verdict v (record_of (sheet_with_figures s))) p
   refused made.NoMemory p = tt
 
-  pub pack_failed : (heights : List ℤ) (e : NoRecord) (n : NotPacked) → heights ≡ s.heights → n ≡ unmade e → PackedAs s.slope s.slack heights (Err e) → PacksText bytes (Err n)
+  pub pack_failed : (heights : List ℤ) (e : Failure) (n : NotPacked) → heights ≡ s.heights → n ≡ unmade e → PackedAs s.slope s.slack heights (Err e) → PacksText bytes (Err n)
   pack_failed heights e n h f p =
       subst (λ x. PacksText bytes (Err x)) (sym f) (refused e (subst (λ hs. PackedAs s.slope s.slack hs (Err e)) h p))
 

@@ -9,8 +9,8 @@ use Rattle.gauges.specs.Tents.{tent_meaning}
 use Rattle.layers.specs.Layers.{step_verdict, coarse_meaning}
 use Rattle.records.specs.Laws.{record_meaning}
 use Rattle.records.specs.Verdict.{record_verdict}
-use Rattle.accounts.specs.declared.failure.NoReport.{NoReport}
-use Rattle.accounts.specs.declared.failure.NoReport.TheVariants.{Refused, NoMemory}
+use Rattle.sheets.specs.declared.failure.Failure.{Failure}
+use Rattle.sheets.specs.declared.failure.Failure.TheVariants.{Refused, NoMemory}
 use Rattle.accounts.specs.declared.stack.Beam.{Beam}
 use Rattle.accounts.specs.Lines.{and_lines, stack_lines}
 use Rattle.accounts.specs.Reports.{record_name, record_lines, Lines, with_heading, step_heading, beam_heading, coarse_lines, stepped, beam_verdict, beamed, layered, after_text, report_of}
@@ -30,7 +30,7 @@ coarse_put old mid new m n q k v h e f p =
 pub plain_put : (old new : List ℕ) (m : Meaning) (step : Option ℕ) → step ≡ None → new ≡ and_lines old (stack_lines m) → after_text old (stepped m step) ≡ Ok new
 plain_put old new m step e p = ap (λ s. after_text old (stepped m s)) e ∙ ap whole (sym p)
 
-headed : (old h new : List ℕ) (d : Lines) (r : Result (Unit {0}) NoReport) → Puts (old ++ h) d r new → Puts old (with_heading h d) r new
+headed : (old h new : List ℕ) (d : Lines) (r : Result (Unit {0}) Failure) → Puts (old ++ h) d r new → Puts old (with_heading h d) r new
 headed old h new (Ok ls) (Ok t) p = p
 headed old h new (Err e) (Ok t) p = p
 headed old h new d (Err (Refused e)) p = ap (with_heading h) p
@@ -45,7 +45,7 @@ beam_is last slope crown height name t o =
     ∙ ap (λ x. tent_meaning last slope crown x t.name) o.height_is
     ∙ ap (tent_meaning last slope crown height) o.name_is
 
-pub beam_put : (old mid new : List ℕ) (m n : Meaning) (b : Beam) (beam : Option Beam) (step : Option ℕ) (r : Result (Unit {0}) NoReport) → beam ≡ Some b → beam_verdict m b ≡ Ok tt → mid ≡ old ++ beam_heading → n ≡ beamed m b → Puts mid (stepped n step) r new → Puts old (layered m beam step) r new
+pub beam_put : (old mid new : List ℕ) (m n : Meaning) (b : Beam) (beam : Option Beam) (step : Option ℕ) (r : Result (Unit {0}) Failure) → beam ≡ Some b → beam_verdict m b ≡ Ok tt → mid ≡ old ++ beam_heading → n ≡ beamed m b → Puts mid (stepped n step) r new → Puts old (layered m beam step) r new
 beam_put old mid new m n b beam step r e v h f p =
     let lines : layered m beam step ≡ with_heading beam_heading (stepped n step) =
     ap (λ o. layered m o step) e

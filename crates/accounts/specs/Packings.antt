@@ -8,8 +8,8 @@ use Rattle.texts.specs.Said.{Figures, sheet_said}
 use Rattle.terms.specs.declared.refusal.Refusal.{Refusal}
 use Rattle.records.specs.Sheet.{Sheet, sheet_with, record_of}
 use Rattle.records.specs.Verdict.{verdict_of}
-use Rattle.sheets.specs.declared.pack.NoRecord.{NoRecord}
-use Rattle.sheets.specs.declared.pack.NoRecord.TheVariants as made
+use Rattle.sheets.specs.declared.failure.Failure.{Failure}
+use Rattle.sheets.specs.declared.failure.Failure.TheVariants as made
 use Rattle.accounts.specs.declared.packing.NotPacked.{NotPacked}
 use Rattle.accounts.specs.declared.packing.NotPacked.TheVariants.{NoSheet, Refused, NoMemory}
 
@@ -20,7 +20,7 @@ unsaid text.NoSlack = NoSheet text.NoSlack
 unsaid (text.NoHeight p) = NoSheet (text.NoHeight p)
 unsaid text.NoMemory = NoMemory
 
-abbrev pub unmade : NoRecord → NotPacked
+abbrev pub unmade : Failure → NotPacked
 unmade (made.Refused r) = Refused r
 unmade made.NoMemory = NoMemory
 

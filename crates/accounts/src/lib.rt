@@ -1,7 +1,6 @@
 // What the program `sheet` tells of a record, and makes of a text, as functions on values.
 #![tactic(auto)]
 
-pub mod failure;
 mod lines;
 pub mod packing;
 pub mod report;

@@ -11,12 +11,12 @@ use std::fmt::Write;
 fn put_spot(out: &mut String, which: &str, spot: Option<Spot>) -> Result<(), AllocError>
     ensures { OnOk result (string_bytes out.new ≡ string_bytes out.old ++ spot_line which.now spot) }
 {
-    let Some(Spot { position, height }) = spot else {
-        writeln!(out, "{which} height none")?;
-        return Ok(());
-    };
-    writeln!(out, "{which} height {height} at position {position}")?;
-    Ok(())
+    match spot {
+        Some(Spot { position, height }) => {
+            writeln!(out, "{which} height {height} at position {position}")
+        }
+        None => writeln!(out, "{which} height none"),
+    }
 }
 
 // How many of the positions are readable.
@@ -40,11 +40,6 @@ pub(crate) fn put_again(out: &mut String, length: usize) -> Result<(), AllocErro
     writeln!(out, "packed again: the same {length} bytes")
 }
 
-// That it gave others; no accepted record does.
-pub(crate) fn put_other(out: &mut String) -> Result<(), AllocError> {
-    writeln!(out, "packed again: other bytes")
-}
-
 // Last position, slope and slack.
 fn put_figures(out: &mut String, last: u32, slope: u32, slack: u32) -> Result<(), AllocError>
     ensures { OnOk result (string_bytes out.new ≡ string_bytes out.old ++ figures_line last slope slack) }
@@ -56,8 +51,7 @@ fn put_figures(out: &mut String, last: u32, slope: u32, slack: u32) -> Result<()
 fn put_line<G: Gauge>(out: &mut String, gauge: &G) -> Result<(), AllocError>
     ensures { OnOk result (string_bytes out.new ≡ string_bytes out.old ++ gauge_line (G.Gauge.meaning gauge.now)) }
 {
-    put_figures(out, gauge.last(), gauge.slope(), gauge.slack())?;
-    Ok(())
+    put_figures(out, gauge.last(), gauge.slope(), gauge.slack())
 }
 
 // The figures, the number of readable positions, the lowest and the highest height of any gauge.
@@ -68,8 +62,7 @@ pub(crate) fn put_summary<G: Gauge>(out: &mut String, gauge: &G) -> Result<(), A
     let summary = summarize(gauge);
     put_readable(out, summary.readable, gauge.last() + 1)?;
     put_spot(out, "lowest", summary.lowest)?;
-    put_spot(out, "highest", summary.highest)?;
-    Ok(())
+    put_spot(out, "highest", summary.highest)
 }
 
 // The reading of one position.
@@ -91,6 +84,5 @@ pub(crate) fn put_gauge<G: Gauge>(out: &mut String, gauge: &G) -> Result<(), All
     put_reading(out, gauge, 0)?;
     put_reading(out, gauge, last / 2)?;
     put_reading(out, gauge, last)?;
-    put_reading(out, gauge, last + 1)?;
-    Ok(())
+    put_reading(out, gauge, last + 1)
 }

@@ -2,7 +2,8 @@
 ghost use Rattle.std.specs.Prelude.{◌≡◌};
 ghost use Rattle.accounts.specs.Packings.{unsaid, unmade, PacksText};
 
-use sheets::pack::{NoRecord, pack};
+use sheets::failure::Failure;
+use sheets::pack::pack;
 use std::alloc::Global;
 use std::error::Error;
 use std::fmt;
@@ -28,13 +29,13 @@ impl From<TextError> for NotPacked {
     }
 }
 
-impl From<NoRecord> for NotPacked {
+impl From<Failure> for NotPacked {
     ghost from_gives = { λ e r. r ≡ unmade e };
 
-    fn from(error: NoRecord) -> NotPacked {
+    fn from(error: Failure) -> NotPacked {
         match error {
-            NoRecord::Refused(refusal) => NotPacked::Refused(refusal),
-            NoRecord::NoMemory => NotPacked::NoMemory,
+            Failure::Refused(refusal) => NotPacked::Refused(refusal),
+            Failure::NoMemory => NotPacked::NoMemory,
         }
     }
 }
@@ -56,6 +57,5 @@ pub fn pack_text(heap: Global, text: &[u8]) -> Result<Vec<u8>, NotPacked>
     ensures { PacksText text.now result }
 {
     let sheet = parse(heap, text)?;
-    let bytes = pack(heap, sheet.slope, sheet.slack, &sheet.heights)?;
-    Ok(bytes)
+    Ok(pack(heap, sheet.slope, sheet.slack, &sheet.heights)?)
 }

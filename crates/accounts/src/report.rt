@@ -1,42 +1,42 @@
 // The report of a record.
-ghost use Rattle.std.specs.Prelude.{◌≡◌, true, is_ok, Ok, string_bytes};
-ghost use Rattle.records.specs.Verdict.{record_verdict};
+ghost use Rattle.std.specs.Prelude.{Ok, string_bytes};
 ghost use Rattle.accounts.specs.Failures.{Puts, Tells};
 ghost use Rattle.accounts.specs.Reports.{record_lines, report_of};
 
-use crate::failure::NoReport;
-use crate::lines::{put_again, put_length, put_other, put_summary};
+use crate::lines::{put_again, put_length, put_summary};
 use crate::stack::Layers;
 use crate::stack::puts::put_stack;
 use records::record::{Record, check};
+use sheets::failure::Failure;
 use sheets::repack::packs_again;
 use std::alloc::Global;
+use std::fmt::Write;
 
 // The gauge's name of the record.
 const RECORD_NAME: u8 = 1;
 
 // What an accepted record says, and that packing it again gives the same bytes.
-fn put_record(heap: Global, out: &mut String, bytes: &[u8], name: u8) -> Result<(), NoReport>
-    requires { is_ok (record_verdict bytes.now name) ≡ true }
-    ensures { Puts (string_bytes out.old) (Ok (record_lines bytes.now name)) result (string_bytes out.new) }
+fn put_record(heap: Global, out: &mut String, record: Record<'_>) -> Result<(), Failure>
+    ensures { Puts (string_bytes out.old) (Ok (record_lines record.entry.bytes.now record.entry.name)) result (string_bytes out.new) }
 {
-    put_length(out, bytes.len())?;
-    put_summary(out, &Record::new(bytes, name))?;
-    if !packs_again(heap, bytes, name)? {
-        put_other(out)?;
-        return Ok(());
+    put_length(out, record.bytes().len())?;
+    put_summary(out, &record)?;
+    if packs_again(heap, record)? {
+        put_again(out, record.bytes().len())?;
+    } else {
+        writeln!(out, "packed again: other bytes")?;
     }
-    put_again(out, bytes.len())?;
     Ok(())
 }
 
 // The report of an accepted record under layers, or its refusal.
-pub fn report(heap: Global, bytes: &[u8], layers: Layers) -> Result<String, NoReport>
+pub fn report(heap: Global, bytes: &[u8], layers: Layers) -> Result<String, Failure>
     ensures { Tells (report_of bytes.now layers.beam layers.step) result }
 {
     check(bytes, RECORD_NAME)?;
+    let record = Record::new(bytes, RECORD_NAME);
     let mut out = String::new(heap);
-    put_record(heap, &mut out, bytes, RECORD_NAME)?;
-    put_stack(&mut out, Record::new(bytes, RECORD_NAME), layers)?;
+    put_record(heap, &mut out, record)?;
+    put_stack(&mut out, record, layers)?;
     Ok(out)
 }

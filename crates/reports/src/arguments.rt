@@ -1,6 +1,6 @@
 // The words after the program's name.
 use crate::commands::Command;
-use crate::stack::{Beam, Layers};
+use accounts::stack::{Beam, Layers};
 use anyhow::anyhow;
 use std::env::Args;
 
@@ -9,10 +9,7 @@ const USAGE: &str =
 
 // The next word, which must be there.
 fn word(args: &mut Args) -> anyhow::Result<String> {
-    match args.next() {
-        Some(word) => Ok(word),
-        None => Err(anyhow!(USAGE)),
-    }
+    args.next().ok_or(anyhow!(USAGE))
 }
 
 // The next word as a number.
@@ -34,10 +31,7 @@ fn beam(args: &mut Args) -> anyhow::Result<Beam> {
 
 // Whether a word is there and says that.
 fn says(word: &Option<String>, text: &str) -> bool {
-    match word {
-        Some(word) => word.as_str() == text,
-        None => false,
-    }
+    word.as_ref().is_some_and(|word| word.as_str() == text)
 }
 
 // The layers over a record: a beam, then a step, each alone or both.
@@ -67,14 +61,15 @@ pub fn read_command(mut args: Args) -> anyhow::Result<Command> {
     let verb = word(&mut args)?;
     let path = word(&mut args)?;
     let layers = read_layers(&mut args)?;
-    match verb.as_str() {
-        "show" => Ok(Command::Show { path, layers }),
-        "pack" => {
-            if layers.beam.is_some() || layers.step.is_some() {
-                return Err(anyhow!(USAGE));
-            }
-            Ok(Command::Pack { path })
-        }
+    match (verb.as_str(), layers) {
+        ("show", layers) => Ok(Command::Show { path, layers }),
+        (
+            "pack",
+            Layers {
+                beam: None,
+                step: None,
+            },
+        ) => Ok(Command::Pack { path }),
         _ => Err(anyhow!(USAGE)),
     }
 }

@@ -1,15 +1,8 @@
 // The commands `show` and `pack`, over the runtime.
-use crate::report::put_record;
-use crate::stack::{Beam, Layers, NoStack, put_stack};
+use accounts::stack::Layers;
 use anyhow::anyhow;
-use records::record::{Record, check};
-use sheets::pack::NoRecord;
 use std::fs;
 use std::io::{Read, Write};
-use terms::refusal::Refusal;
-
-// The gauge's name of the record.
-const RECORD_NAME: u8 = 1;
 
 // One byte more than the longest record: enough to refuse every longer one.
 const RECORD_BOUND: u64 = 8_009;
@@ -24,11 +17,6 @@ pub enum Command {
     Pack { path: String },
 }
 
-// The message of a refused record or sheet.
-fn refused(rt: &HostRuntime, refusal: Refusal) -> anyhow::Result<anyhow::Error> {
-    Ok(anyhow!(format!(in rt.alloc(); "refused with {refusal}")?))
-}
-
 // The bytes of a file, read to the bound of records.
 fn read_record(rt: &HostRuntime, path: &str) -> anyhow::Result<Vec<u8>> {
     let mut bytes = Vec::new(rt.alloc());
@@ -40,29 +28,13 @@ fn read_record(rt: &HostRuntime, path: &str) -> anyhow::Result<Vec<u8>> {
 
 // The report of an accepted record, or its refusal.
 pub fn report(rt: &HostRuntime, bytes: &[u8], layers: Layers) -> anyhow::Result<String> {
-    if let Err(refusal) = check(bytes, RECORD_NAME) {
-        return Err(refused(rt, refusal)?);
-    }
-    let mut out = String::new(rt.alloc());
-    put_record(rt.alloc(), &mut out, bytes, RECORD_NAME)?;
-    if layers.beam.is_none() && layers.step.is_none() {
-        return Ok(out);
-    }
-    match put_stack(&mut out, Record::new(bytes, RECORD_NAME), layers) {
-        Ok(()) => Ok(out),
-        Err(NoStack::Refused(refusal)) => Err(refused(rt, refusal)?),
-        Err(NoStack::NotWritten) => Err(anyhow!("no memory")),
-    }
+    Ok(accounts::report::report(rt.alloc(), bytes, layers)?)
 }
 
 // The record of the sheet that a text says.
 pub fn pack_text(rt: &HostRuntime, text: &str) -> anyhow::Result<Vec<u8>> {
     let sheet = sheets::text::parse(rt.alloc(), text)?;
-    match sheets::pack::pack(rt.alloc(), sheet.slope, sheet.slack, &sheet.heights) {
-        Ok(bytes) => Ok(bytes),
-        Err(NoRecord::Refused(refusal)) => Err(refused(rt, refusal)?),
-        Err(NoRecord::NoMemory) => Err(anyhow!("no memory")),
-    }
+    Ok(sheets::pack::pack(rt.alloc(), sheet.slope, sheet.slack, &sheet.heights)?)
 }
 
 // Prints the report of a record.

@@ -3,5 +3,3 @@
 
 pub mod arguments;
 pub mod commands;
-mod report;
-pub mod stack;

@@ -3,36 +3,12 @@ ghost use Rattle.std.specs.Prelude.{◌≡◌, ◌+◌, ◌*◌, length, Ok, OnO
 ghost use Rattle.records.specs.Sheet.{sheet_with, record_of};
 ghost use Rattle.records.specs.Verdict.{verdict_of};
 ghost use Rattle.sheets.specs.Packs.{PackedAs};
-ghost use Rattle.sheets.specs.declared.pack.NoRecord.TheVariants.{Refused, NoMemory};
 
+use crate::failure::Failure;
 use heights::checks::check_sheet;
 use heights::list::Lent;
 use records::writer::write;
-use std::alloc::{AllocError, Global};
-use terms::refusal::Refusal;
-
-// Why there is no record.
-#[derive(Drop, Debug)]
-pub enum NoRecord {
-    Refused(Refusal),
-    NoMemory,
-}
-
-impl From<Refusal> for NoRecord {
-    ghost from_gives = { λ e r. r ≡ Refused e };
-
-    fn from(refusal: Refusal) -> NoRecord {
-        NoRecord::Refused(refusal)
-    }
-}
-
-impl From<AllocError> for NoRecord {
-    ghost from_gives = { λ _ r. r ≡ NoMemory };
-
-    fn from(_error: AllocError) -> NoRecord {
-        NoRecord::NoMemory
-    }
-}
+use std::alloc::Global;
 
 // Makes a buffer of the right length the record of a lawful sheet.
 fn fill(bytes: &mut [u8], slope: u32, slack: u32, heights: &[i32])
@@ -44,7 +20,7 @@ fn fill(bytes: &mut [u8], slope: u32, slack: u32, heights: &[i32])
 }
 
 // The bytes of a sheet's record.
-pub fn pack(heap: Global, slope: u32, slack: u32, heights: &[i32]) -> Result<Vec<u8>, NoRecord>
+pub fn pack(heap: Global, slope: u32, slack: u32, heights: &[i32]) -> Result<Vec<u8>, Failure>
     ensures made { PackedAs slope slack heights.now result }
     ensures lawful { OnOk result (verdict_of (sheet_with slope slack heights.now) ≡ Ok tt) }
 {

@@ -1,7 +1,7 @@
 // What the readings of any gauge come to.
-ghost use Rattle.std.specs.Prelude.{◌≡◌, ℕ, ◌+◌, ◌≤◌, ℤ, neg_ℤ};
+ghost use Rattle.std.specs.Prelude.{◌≡◌, ℕ, ◌+◌, ◌≤◌, Bool, ℤ, int_lt};
 ghost use Rattle.terms.specs.Limits.{last_max};
-ghost use Rattle.sheets.specs.Summaries.{itself, led, with_reading, Summarizes, summary_before};
+ghost use Rattle.sheets.specs.Summaries.{led, with_reading, Summarizes, summary_before};
 
 use gauges::gauge::Gauge;
 use terms::fault::Fault;
@@ -21,35 +21,16 @@ pub struct Summary {
     pub highest: Option<Spot>,
 }
 
-// The higher of the spot so far and one more; of equals the one so far.
-fn higher_of(best: Option<Spot>, spot: Spot) -> Option<Spot>
-    ensures { result ≡ led itself best spot }
+// The spot so far, unless its height is outranked by that of one more.
+fn led<F: Fn(i32, i32) -> bool>(best: Option<Spot>, spot: Spot, outranked: F) -> Option<Spot>
+    ghost rank: { ℤ → ℤ }
+    requires callable { F.IsAlwaysCallable outranked }
+    requires ranks { (a b : ℤ) (r : Bool) → F.post outranked a b r → r ≡ int_lt (rank a) (rank b) }
+    ensures { result ≡ led rank best spot }
 {
     match best {
-        Some(held) => {
-            if held.height < spot.height {
-                Some(spot)
-            } else {
-                best
-            }
-        }
-        None => Some(spot),
-    }
-}
-
-// The lower of the spot so far and one more; of equals the one so far.
-fn lower_of(best: Option<Spot>, spot: Spot) -> Option<Spot>
-    ensures { result ≡ led neg_ℤ best spot }
-{
-    match best {
-        Some(held) => {
-            if spot.height < held.height {
-                Some(spot)
-            } else {
-                best
-            }
-        }
-        None => Some(spot),
+        Some(held) if !outranked(held.height, spot.height) => best,
+        _ => Some(spot),
     }
 }
 
@@ -58,16 +39,14 @@ fn with_reading(so_far: Summary, position: u32, reading: Result<i32, Fault>) -> 
     requires { so_far.readable ≤ last_max }
     ensures { result ≡ with_reading so_far position reading }
 {
-    match reading {
-        Ok(height) => {
-            let spot = Spot { position, height };
-            Summary {
-                readable: so_far.readable + 1,
-                lowest: lower_of(so_far.lowest, spot),
-                highest: higher_of(so_far.highest, spot),
-            }
-        }
-        Err(_) => so_far,
+    let Ok(height) = reading else {
+        return so_far;
+    };
+    let spot = Spot { position, height };
+    Summary {
+        readable: so_far.readable + 1,
+        lowest: led(so_far.lowest, spot, |held, one_more| one_more < held),
+        highest: led(so_far.highest, spot, |held, one_more| held < one_more),
     }
 }
 

@@ -8,6 +8,7 @@ ghost use Rattle.texts.specs.declared.sheet.TextError.TheVariants.{NoMemory};
 use crate::number::number;
 use crate::words::next_word;
 use std::alloc::{AllocFailed, Global};
+use std::error::Error;
 use std::fmt;
 use terms::limits::UNREAD;
 
@@ -32,6 +33,8 @@ impl fmt::Display for TextError {
         }
     }
 }
+
+impl Error for TextError {}
 
 impl<T: Drop> From<AllocFailed<T>> for TextError {
     ghost from_gives = { λ _ r. r ≡ NoMemory };

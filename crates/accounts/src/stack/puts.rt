@@ -4,7 +4,6 @@ ghost use Rattle.gauges.specs.Made.{TentOf};
 ghost use Rattle.accounts.specs.Failures.{Puts};
 ghost use Rattle.accounts.specs.Reports.{step_heading, beam_heading, beam_name, coarse_lines, stepped, beam_verdict, layered};
 
-use crate::failure::NoReport;
 use crate::lines::put_gauge;
 use crate::stack::{Beam, Layers};
 use gauges::gauge::Gauge;
@@ -12,6 +11,7 @@ use gauges::tent::Tent;
 use layers::coarse::Coarse;
 use layers::step::Step;
 use layers::sum::Sum;
+use sheets::failure::Failure;
 use std::alloc::AllocError;
 use std::fmt::Write;
 use terms::refusal::Refusal;
@@ -34,7 +34,7 @@ fn put_beam(out: &mut String) -> Result<(), AllocError>
 }
 
 // The gauge rounded down to a step.
-fn put_coarse<G: Gauge + Drop>(out: &mut String, gauge: G, size: u32) -> Result<(), NoReport>
+fn put_coarse<G: Gauge + Drop>(out: &mut String, gauge: G, size: u32) -> Result<(), Failure>
     ensures { Puts (string_bytes out.old) (coarse_lines (G.Gauge.meaning gauge) size) result (string_bytes out.new) }
 {
     let step = Step::new(size)?;
@@ -48,15 +48,12 @@ fn put_stepped<G: Gauge + Drop>(
     out: &mut String,
     gauge: G,
     step: Option<u32>,
-) -> Result<(), NoReport>
+) -> Result<(), Failure>
     ensures { Puts (string_bytes out.old) (stepped (G.Gauge.meaning gauge) step) result (string_bytes out.new) }
 {
     match step {
         Some(size) => put_coarse(out, gauge, size),
-        None => {
-            put_gauge(out, &gauge)?;
-            Ok(())
-        }
+        None => Ok(put_gauge(out, &gauge)?),
     }
 }
 
@@ -68,11 +65,7 @@ fn beam_over<G: Gauge>(gauge: &G, beam: Beam) -> Result<Tent, Refusal>
 }
 
 // The gauge under the layers that are asked for, from the lowest on.
-pub fn put_stack<G: Gauge + Drop>(
-    out: &mut String,
-    gauge: G,
-    layers: Layers,
-) -> Result<(), NoReport>
+pub fn put_stack<G: Gauge + Drop>(out: &mut String, gauge: G, layers: Layers) -> Result<(), Failure>
     ensures { Puts (string_bytes out.old) (layered (G.Gauge.meaning gauge) layers.beam layers.step) result (string_bytes out.new) }
 {
     match (layers.beam, layers.step) {

@@ -1,13 +1,20 @@
-use Rattle.std.proofs.Common.{string_bytes, sym, ap, ◌∙◌}
+use Rattle.std.proofs.Common.{◌≡◌, ℕ, List, Ok, string_bytes, sym, ap, ◌∙◌}
 use Rattle.records.specs.Laws.{record_meaning}
+use Rattle.accounts.specs.Reports.{record_name, record_lines, after_text}
 use Rattle.accounts.proofs.Stacks.{report-told}
 use Rattle.accounts.proofs.report.report.Goals as goal
 
 pub returns : goal.returns
 returns c =
-    report-told c.args.bytes.now c.args.layers.beam c.args.layers.step
-    (string_bytes c.new-out.result) (string_bytes c.put_record.new.out) (string_bytes c.put_stack.new.out)
-    (record_meaning c.new.result.bytes.now c.new.result.name)
-    (sym c.in_ok-check.ensures) c.new-out.ensures.bytes c.in_ok-put_record.ensures
-    (ap (λ b. record_meaning b c.new.result.name) c.new.ensures.0 ∙ ap (record_meaning c.args.bytes.now) c.new.ensures.1)
+    let b : List ℕ = c.args.bytes.now in
+    let made = c.new-record.result in
+    let bytes : made.bytes.now ≡ b = c.new-record.ensures.0 in
+    let name : made.name ≡ record_name = c.new-record.ensures.1 in
+    let start = string_bytes c.new-out.result in
+    let lines : record_lines made.bytes.now made.name ≡ record_lines b record_name = ap (λ x. record_lines x made.name) bytes ∙ ap (record_lines b) name in
+    report-told b c.args.layers.beam c.args.layers.step
+    start (string_bytes c.put_record.new.out) (string_bytes c.put_stack.new.out)
+    (record_meaning made.bytes.now made.name)
+    (sym c.in_ok-check.ensures) c.new-out.ensures.bytes (ap (λ (ls : List (List ℕ)). after_text start (Ok ls)) (sym lines) ∙ c.in_ok-put_record.ensures)
+    (ap (λ x. record_meaning x made.name) bytes ∙ ap (record_meaning b) name)
     c.in_ok-put_stack.ensures
