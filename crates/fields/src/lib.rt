@@ -20,9 +20,11 @@ impl Field {
         requires { (self.width ≤ 17) × (self.at + self.width ≤ 8 * length bytes.now) }
         ensures { (result ≡ field_of bytes.now self.at self.width) × (result < 2 ^ self.width) }
     {
-        let end = (self.at + self.width).div_ceil(8);
-        let whole = whole_bytes(&bytes[self.at / 8..end]);
-        (whole >> (8 * end - self.at - self.width)) & ((1 << self.width) - 1)
+        let start = self.at / 8;
+        let offset = self.at % 8;
+        let count = (offset + self.width).div_ceil(8);
+        let whole = whole_bytes(&bytes[start..start + count]);
+        (whole >> (8 * count - offset - self.width)) & ((1 << self.width) - 1)
     }
 
     // The number that the bits of the field write in two's complement.
