@@ -65,11 +65,9 @@ fn whole_bytes(bytes: &[u8]) -> u32
     requires { length bytes.now ≤ 4 }
     ensures { result ≡ field_of bytes.now 0 (8 * length bytes.now) }
 {
-    let mut whole: u32 = 0;
-    for byte in bytes {
-        whole = whole << 8 | u32::from(*byte);
-    }
-    whole
+    bytes
+        .iter()
+        .fold(0, |whole, byte| whole << 8 | u32::from(*byte))
 }
 
 // The byte with its first `place` bits as they are, then the bit `one`, then 0 bits.
