@@ -1,9 +1,10 @@
 -- Laws of `num`, over any width.
-use Rattle.std.proofs.Common.{◌≡◌, ℕ, zero, suc, ◌+◌, ◌-◌, ◌*◌, ◌/◌, ◌%◌, ◌^◌, ◌<◌, ◌≤◌, List, length, get_or, sym, refl, ap, ◌∙◌, add-zero, zero-add, take, drop, mul_assoc, pow-suc, div-one, add-one, arith}
+use Rattle.std.proofs.Common.{◌≡◌, ℕ, zero, suc, ◌+◌, ◌-◌, ◌*◌, ◌/◌, ◌%◌, ◌^◌, ◌<◌, ◌≤◌, List, length, get_or, sym, refl, ap, ◌∙◌, add-zero, zero-add, length-append, take, drop, [], ◌∷◌, ◌++◌, mul_assoc, pow-suc, div-one, add-one, arith}
 use native.Mathlib.Nat.{div-eq_of_lt}
 use Rattle.std.proofs.lemmas.Nat.{mod_below, shr-shr, div-add-mod', shr_high, mod_low, mod-mul-add}
 use Rattle.std.proofs.lemmas.List.FromFn.{get_or-map-range_with_len}
 use Rattle.std.proofs.lemmas.List.{ext_get_or, get_or-take, get_or-drop, length-take-le, length-drop}
+use Rattle.std.proofs.lemmas.Grind.{common_steps}
 use Rattle.fields.specs.Bits.{bit, num, field_of, bytes_of}
 
 -- one bit more
@@ -90,12 +91,17 @@ num_inside f h a o w r =
     (mod_low (num f a o) w (num f (a + o) w) (num_lt f h (a + o) w))
 
 -- one byte more
-pub field_byte_more : (bs : List ℕ) (i : ℕ) → get_or bs i 0 < 256 → field_of bs 0 (8 * (i + 1)) ≡ field_of bs 0 (8 * i) * 256 + get_or bs i 0
+pub field_byte_more : (bs : List ℕ) (b : ℕ) → b < 256 → field_of (bs ++ b ∷ []) 0 (8 * length (bs ++ b ∷ [])) ≡ field_of bs 0 (8 * length bs) * 256 + b
 unfolding field_of
-field_byte_more bs i small =
-    let e : 8 * (i + 1) ≡ 8 * i + 8 = omega arith in
-    let z : 0 + 8 * i ≡ 8 * i = zero-add (8 * i) in
-    rw (e, num_split (bit bs) 0 (8 * i) 8, z, num_byte bs i small)
+field_byte_more bs b small =
+    let n : ℕ = length bs in
+    let e : 8 * length (bs ++ b ∷ []) ≡ 8 * n + 8 = omega (arith, length-append bs (b ∷ [])) in
+    let z : 0 + 8 * n ≡ 8 * n = zero-add (8 * n) in
+    let last : get_or (bs ++ b ∷ []) n 0 ≡ b = grind (arith, common_steps) in
+    let front : num (bit (bs ++ b ∷ [])) 0 (8 * n) ≡ num (bit bs) 0 (8 * n) =
+    num_same (bit (bs ++ b ∷ [])) (bit bs) 0 0 (8 * n)
+    (λ k l. let g : get_or (bs ++ b ∷ []) (k / 8) 0 ≡ get_or bs (k / 8) 0 = let m : k / 8 < n = omega arith in grind (arith, common_steps) in rw (zero-add, g)) in
+    rw (e, num_split (bit (bs ++ b ∷ [])) 0 (8 * n) 8, z, front, num_byte (bs ++ b ∷ []) n (rw last small), last)
 
 -- n bytes cut out write the field that they are there
 pub field_slice : (bs : List ℕ) (s n : ℕ) → s + n ≤ length bs → field_of (take n (drop s bs)) 0 (8 * length (take n (drop s bs))) ≡ field_of bs (8 * s) (8 * n)

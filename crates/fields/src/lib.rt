@@ -20,9 +20,11 @@ impl Field {
         requires { (self.width ≤ 17) × (self.at + self.width ≤ 8 * length bytes.now) }
         ensures { (result ≡ field_of bytes.now self.at self.width) × (result < 2 ^ self.width) }
     {
-        let end = (self.at + self.width).div_ceil(8);
-        let whole = whole_bytes(&bytes[self.at / 8..end]);
-        (whole >> (8 * end - self.at - self.width)) & ((1 << self.width) - 1)
+        let start = self.at / 8;
+        let offset = self.at % 8;
+        let count = (offset + self.width).div_ceil(8);
+        let whole = whole_bytes(&bytes[start..start + count]);
+        (whole >> (8 * count - offset - self.width)) & ((1 << self.width) - 1)
     }
 
     // The number that the bits of the field write in two's complement.
@@ -63,11 +65,9 @@ fn whole_bytes(bytes: &[u8]) -> u32
     requires { length bytes.now ≤ 4 }
     ensures { result ≡ field_of bytes.now 0 (8 * length bytes.now) }
 {
-    let mut whole: u32 = 0;
-    for byte in bytes {
-        whole = whole << 8 | u32::from(*byte);
-    }
-    whole
+    bytes
+        .iter()
+        .fold(0, |whole, byte| whole << 8 | u32::from(*byte))
 }
 
 // The byte with its first `place` bits as they are, then the bit `one`, then 0 bits.

@@ -19,7 +19,7 @@ const PAD_WIDTH: usize = 4;
 // The bytes of the fields before the heights with the pad bits, and of each height.
 pub(crate) const HEAD_BYTES: usize = 6;
 
-const HEIGHT_BYTES: usize = 2;
+pub(crate) const HEIGHT_BYTES: usize = 2;
 
 // The bytes of a record with that many heights.
 pub(crate) fn size(count: usize) -> usize

@@ -44,7 +44,7 @@ pub fn check(bytes: &[u8], name: u8) -> Result<(), Refusal>
     let slack = SLACK.read(bytes);
     checks::check_line(last, slope, slack)?;
     check_shape(bytes, last)?;
-    checks::check_heights(&Packed::new(bytes, last + 1), slope, slack)?;
+    checks::check_heights(&Packed::new(bytes), slope, slack)?;
     checks::check_name(name)
 }
 

@@ -26,7 +26,6 @@ impl<'a> Gauge for Record<'a> {
     }
 
     fn read(&self, position: u32) -> Result<i32, Fault> {
-        let count = last_of(self.bytes) as usize + 1;
-        reading(&Packed::new(self.bytes, count), self.name, position)
+        reading(&Packed::new(self.bytes), self.name, position)
     }
 }

@@ -1,4 +1,4 @@
-use Rattle.std.proofs.Common.{◌≡◌, ℕ, ◌-◌, ◌*◌, ◌/◌, ◌%◌, ◌^◌, ◌<◌, sym, ap, ◌∙◌, subst, arith}
+use Rattle.std.proofs.Common.{◌≡◌, ℕ, ◌+◌, ◌-◌, ◌*◌, ◌/◌, ◌%◌, ◌^◌, ◌<◌, sym, ap, ◌∙◌, subst, arith}
 use lib.Bits.{bit_and}
 use Rattle.std.proofs.lemmas.Nat.{and_mask, one_shl}
 use Rattle.fields.specs.Bits.{field_of}
@@ -10,8 +10,8 @@ returns c =
     let bs = c.args.bytes.now in
     let a : ℕ = c.args.self.at in
     let w : ℕ = c.args.self.width in
-    let n : ℕ = c.div_ceil-end.result - a / 8 in
-    let r : ℕ = 8 * c.div_ceil-end.result - a - w in
+    let n : ℕ = a / 8 + c.div_ceil-count.result - a / 8 in
+    let r : ℕ = 8 * c.div_ceil-count.result - a % 8 - w in
     let v : ℕ = c.whole_bytes-whole.result in
     let q : bit_and (v / 2 ^ r) ((1 * 2 ^ w) % 2 ^ 32 - 1) ≡ field_of bs a w =
     ap (λ x. bit_and (v / 2 ^ r) (x - 1)) (one_shl w 32 (omega arith)) ∙ and_mask (v / 2 ^ r) w
