@@ -6,8 +6,7 @@ use Rattle.std.proofs.lemmas.Bool.{cond_both, cond-true, cond-false}
 use Rattle.std.proofs.lemmas.Bool.Decides.{nat_tests}
 use Rattle.caps.specs.declared.Touch.{Touch}
 use Rattle.caps.specs.declared.Line.{Line}
-use Rattle.terms.specs.Limits.{touches_max}
-use Rattle.caps.specs.Touches.{insert, WithinLimits, Sound}
+use Rattle.caps.specs.Touches.{insert}
 use Rattle.caps.specs.Places.{places_before, Follows, AllFollow}
 
 abbrev pub no_touch : Touch
@@ -41,9 +40,6 @@ before_here p t ts h = grind (arith, nat_tests)
 
 -- Touches follow when the first does and the others follow after it.
 module _ (line : Line) (from : ℕ) (t : Touch) (ts : List Touch) where
-  pub first_follows : AllFollow line from (t ∷ ts) → Follows line from t
-  first_follows h = record { after = h.after.0; within = h.on_line.within.0; height = h.heights.0 }
-
   pub rest_follow : AllFollow line from (t ∷ ts) → AllFollow line (t.position + 1) ts
   rest_follow h = record {
     after = All-weaker (λ u. t.position < u.position) (λ u. t.position + 1 ≤ u.position) (λ u k. omega arith) ts h.on_line.rising.0;
@@ -62,17 +58,3 @@ module _ (line : Line) (from : ℕ) (t : Touch) (ts : List Touch) where
         };
         heights = (f.height, h.heights);
       }
-
-pub none_follow : (line : Line) (from : ℕ) → AllFollow line from []
-none_follow line from = record { after = tt; on_line = record { within = tt; rising = tt }; heights = tt }
-
--- Touches that follow from position 0 on, few enough, on a line within its limits.
-pub sound_from : (line : Line) (ts : List Touch) → WithinLimits line → length ts ≤ touches_max → AllFollow line 0 ts → Sound line ts
-sound_from line ts limits few h = record { limits = limits; on_line = h.on_line; heights = h.heights; few = few }
-
-pub follow_from : (line : Line) (ts : List Touch) → Sound line ts → AllFollow line 0 ts
-follow_from line ts h = record {
-  after = All-weaker (λ t. t.position ≤ line.last) (λ t. 0 ≤ t.position) (λ t k. omega arith) ts h.on_line.within;
-  on_line = h.on_line;
-  heights = h.heights;
-}

@@ -1,11 +1,7 @@
--- Distance on the line, and by how much heights may differ: a distance too, 0 from a position to itself.
+-- Distance on the line, and by how much heights may differ: a distance too.
 use Rattle.std.proofs.Common.{◌≡◌, ℕ, ◌+◌, ◌*◌, ◌≤◌, cond, eqb, ◌≢◌, mul-le-mul_left, arith}
 use Rattle.std.proofs.lemmas.Bool.Decides.{nat_tests}
 use Rattle.terms.specs.Meaning.{distance}
-
-pub distance_self : (x : ℕ) → distance x x ≡ 0
-unfolding distance
-distance_self x = omega arith
 
 pub distance_same : (x y : ℕ) → distance x y ≡ distance y x
 unfolding distance

@@ -1,7 +1,7 @@
-use Rattle.std.proofs.Common.{◌≡◌, ℕ, ◌+◌, ◌-◌, ◌<◌, ◌≤◌, List, [], ◌∷◌, ◌++◌, length, get_or, take, drop, set, sym, ap, ◌∙◌, append_assoc, add-one, arith, take-append-drop}
+use Rattle.std.proofs.Common.{◌≡◌, ℕ, ◌+◌, ◌-◌, ◌<◌, ◌≤◌, List, [], ◌∷◌, ◌++◌, length, get_or, take, drop, set, sym, ap, ◌∙◌, append_assoc, add-one, arith}
 use lib.Seq.{take-append-add}
 use Rattle.std.specs.List.{insert}
-use Rattle.std.proofs.lemmas.List.{take_more, drop_more, set_at, get_or_at, length-take-le, take_at, take-take, drop-take}
+use Rattle.std.proofs.lemmas.List.{take_more, drop_more, set_at, get_or_at, length-take-le, take-take, drop-take}
 use Rattle.std.proofs.lemmas.List.Edits.{length-insert, get_or-insert_above}
 
 module _ {X : Type 0} (T : List X) (at : ℕ) (x d : X) where
@@ -40,8 +40,3 @@ module _ {X : Type 0} (T : List X) (at : ℕ) (x : X) where
       ap (λ j. take j (insert T at x)) (sym f)
       ∙ part (n - at) (omega arith)
       ∙ ap (λ j. insert (take j T) at x) e
-
-  pub shift_start : at ≤ length T → T ≡ take at (insert T at x) ++ drop at T
-  shift_start le =
-      sym (take-append-drop at T)
-      ∙ ap (λ (u : List X). u ++ drop at T) (sym (take_at (take at T) (x ∷ drop at T) at (length-take-le at T le)))

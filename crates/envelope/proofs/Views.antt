@@ -1,5 +1,5 @@
 -- What is computed from the gaps is what is defined over all positions.
-use Rattle.std.proofs.Common.{◌≡◌, ℕ, ◌<◌, cond, List, [], ◌∷◌, map, length, ℤ, pos, ◌+ℤ◌, Some, None, Option, sym, refl, ap, ◌∙◌, arith}
+use Rattle.std.proofs.Common.{◌≡◌, ℕ, cond, List, [], ◌∷◌, map, ℤ, pos, ◌+ℤ◌, Some, None, Option, sym, refl, ap, ◌∙◌, arith}
 use lib.Signed.{lt_z}
 use Rattle.std.proofs.lemmas.Bool.{cond_both, cond-true, cond-false}
 use Rattle.pick.specs.Picks.{held, picked, first_above}
@@ -48,21 +48,9 @@ look_is line (a ∷ ts) t z s h e q c =
     made : Touch → ℤ → Option Summit → Option Outlook
     made u y o = Some (record { floor = u; ceiling = y; summit = o })
 
-pub none_is : (line : Line) (ts : List Touch) → None ≡ floor_touch ts → None ≡ outlook line ts
-none_is line [] e = refl
-none_is line (a ∷ ts) e = let n : ◌≡◌ {A = ℕ} 0 1 = cc in absurd (omega arith)
-
-pub some_touched : (ts : List Touch) (t : Touch) → Some t ≡ floor_touch ts → 0 < length ts
-some_touched [] t e = let n : ◌≡◌ {A = ℕ} 0 1 = cc in absurd (omega arith)
-some_touched (a ∷ ts) t e = omega arith
-
 pub open_is : (line : Line) (ts : List Touch) (t : Touch) (z : ℤ) (tolerance : ℕ) (r : Option Summit) → Some t ≡ floor_touch ts → z ≡ t.height +ℤ pos tolerance →
     r ≡ summit_above line ts z → r ≡ open_summit line ts tolerance
 open_is line [] t z tolerance r e b q = let n : ◌≡◌ {A = ℕ} 0 1 = cc in absurd (omega arith)
 open_is line (a ∷ ts) t z tolerance r e b q =
     let is : t ≡ floor a ts = cc in
     q ∙ ap (summit_above line (a ∷ ts)) (b ∙ ap (λ (u : Touch). u.height +ℤ pos tolerance) is)
-
-pub none_open : (line : Line) (ts : List Touch) (tolerance : ℕ) → None ≡ floor_touch ts → None ≡ open_summit line ts tolerance
-none_open line [] tolerance e = refl
-none_open line (a ∷ ts) tolerance e = let n : ◌≡◌ {A = ℕ} 0 1 = cc in absurd (omega arith)

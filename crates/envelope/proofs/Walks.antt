@@ -53,10 +53,6 @@ module _ (line : Line) (ts : List Touch) (h : Sound line ts) where
   low : (f : Touch → ℤ) (us : List Touch) → Small f us → AllByRecursion (λ t. f t ≤ℤ pos 2147483647) us
   low f us h = All-weaker (λ t. nat_abs (f t) ≤ line_max) (λ t. f t ≤ℤ pos 2147483647) (λ t k. omega (arith, ints)) us h
 
-  -- One more place of the table, from the right.
-  pub fall_low : (i : ℕ) (d : Touch) → i < length ts → lowest (fall line.slope) (drop i ts) ≡ int_min (fall line.slope (get_or ts i d)) (lowest (fall line.slope) (drop (i + 1) ts))
-  fall_low i d l = ap (lowest (fall line.slope)) (drop_more ts i d l)
-
 module _ {line : Line} {ts : List Touch} {falls : List ℤ} {at from : ℕ} {left : ℤ} (w : Walking line ts falls at from left) where
   abbrev f : ℕ → ℤ
   f = cap line ts

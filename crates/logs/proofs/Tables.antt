@@ -9,14 +9,11 @@ use Rattle.caps.specs.declared.Line.{Line}
 use Rattle.caps.specs.Touches.{Sound, insert, is_touched}
 use Rattle.caps.proofs.Highest.{false_untouched}
 use Rattle.caps.proofs.Inserts.{insert_in, insert_on_line}
-use Rattle.surveys.specs.States.{State, add, full}
+use Rattle.surveys.specs.States.{full}
 use Rattle.surveys.proofs.Later.{length-insert}
 use Rattle.logs.specs.declared.log.Log.{Log}
 use Rattle.logs.specs.declared.log.Notes.{Notes}
 use Rattle.logs.specs.Logs.{state_of, PutIn, Free}
-
-abbrev touches_of : Log → List Touch
-touches_of l = (state_of l).touches
 
 pub count_is : (l : Log) → length (state_of l).touches ≡ l.notes.count
 count_is l = let w = l.within in let r = l.room in let n = l.long in length-take-le l.notes.count l.notes.touches (omega arith)
@@ -33,16 +30,6 @@ module _ (l : Log) (u : Touch) (n : Notes) (put : PutIn u l.notes n) where
   touches_then =
       ap (λ k. take k n.touches) put.count ∙ ap (take (l.notes.count + 1)) put.table
       ∙ take_at (insert u (state_of l).touches) (drop (l.notes.count + 1) l.notes.touches) (l.notes.count + 1) (omega (arith, length-insert u (state_of l).touches, count_is l))
-
-  abbrev made : Line → ℕ → ℕ → List Touch → State
-  made line tolerance limit ts = record { line = line; tolerance = tolerance; limit = limit; touches = ts }
-
-  pub state_then : made n.line n.tolerance n.limit (take n.count n.touches) ≡ add u (state_of l)
-  state_then =
-      ap (λ (line : Line). made line n.tolerance n.limit (take n.count n.touches)) put.line
-      ∙ ap (λ k. made l.notes.line k n.limit (take n.count n.touches)) put.tolerance
-      ∙ ap (λ k. made l.notes.line l.notes.tolerance k (take n.count n.touches)) put.limit
-      ∙ ap (made l.notes.line l.notes.tolerance l.notes.limit) touches_then
 
   module _ (room : full (state_of l) ≡ false) (free : Free (state_of l) u.position) (height : Height u.height) where
     abbrev ts : List Touch

@@ -1,15 +1,8 @@
-use Rattle.std.proofs.Common.{◌≡◌, ◌+◌, ◌<◌, List, ◌++◌, length, get_or, take, drop, set, sym, ap, ◌∙◌, arith}
+use Rattle.std.proofs.Common.{◌≡◌, ◌+◌, ◌<◌, List, ◌++◌, length, get_or, take, drop, set, ap, ◌∙◌, arith}
 use Rattle.std.specs.List.{insert}
-use Rattle.std.proofs.lemmas.List.Edits.{get_or-insert_at}
 use Rattle.std.proofs.lemmas.List.{get_or_default}
-use Rattle.caps.proofs.Shifts.{shift_set, shift_old, shift_done, shift_start}
+use Rattle.caps.proofs.Shifts.{shift_set, shift_old, shift_done}
 use Rattle.caps.proofs.table.insert_at.Goals as goal
-
-pub loop-i-init : goal.loop-i-init
-loop-i-init g c = (
-  sym (get_or-insert_at c.args.items.now c.args.at c.args.item c.args.item (omega arith)),
-  shift_start c.args.items.now c.args.at c.args.item (omega arith),
-)
 
 pub loop-i-preserved : goal.loop-i-preserved
 loop-i-preserved g c =

@@ -5,9 +5,8 @@ use Rattle.logs.specs.Logs.{state_of, place_seen}
 use Rattle.logs.proofs.Aiming.{high_open}
 use Rattle.logs.proofs.log.Log.high_aim.Goals as goal
 
-pub returns : goal.returns
-returns c =
+pub returns-clause-free : goal.returns-clause-free
+returns-clause-free c =
     let l = c.args.self.now in
     let open-now = sym (c.if-is_settled.ensures ∙ ap (λ (o : Option Outlook). settled_by o l.notes.tolerance) c.look-seen.ensures) in
-    let r = high_open (state_of l) l.sound.on_line open-now c.high_place.result (c.high_place.ensures ∙ ap place_seen c.look-seen.ensures) in
-    record { is = r.0; free = r.1 }
+    (high_open (state_of l) l.sound.on_line open-now c.high_place.result (c.high_place.ensures ∙ ap place_seen c.look-seen.ensures)).1

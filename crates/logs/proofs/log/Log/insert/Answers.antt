@@ -1,5 +1,5 @@
 use Rattle.std.proofs.Common.{◌∙◌, arith}
-use Rattle.logs.proofs.Tables.{count_below, state_then, sound_then}
+use Rattle.logs.proofs.Tables.{count_below, sound_then}
 use Rattle.logs.proofs.log.Log.insert.Goals as goal
 
 pub invariant_of-self : goal.invariant_of-self
@@ -16,6 +16,3 @@ invariant_of-self c =
       long = put.long ∙ l.long;
       sound = sound_then l u n put c.requires.room c.requires.free c.requires.height;
     }
-
-pub returns : goal.returns
-returns c = state_then c.args.self.now c.args.touch c.put_in.new.self c.put_in.ensures
