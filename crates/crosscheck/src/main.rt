@@ -71,7 +71,7 @@ const KINDS: [Kind; 6] = [
     },
 ];
 
-// How the tables of a run went so far.
+// How the tables of a run went so far. The tally of `crosscases` is apart: it prints other words, counts refusals and knows cases of other types.
 #[derive(Drop)]
 struct Tally {
     disagreed: u32,

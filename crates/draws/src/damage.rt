@@ -2,7 +2,7 @@
 use crate::chance::Chance;
 use std::alloc::{AllocError, Global};
 
-// Where a record is damaged.
+// Where a record is damaged: data, since the kinds of cases are constants and those can hold no closure.
 #[derive(Clone, Copy, PartialEq, Eq, Debug)]
 pub enum Damage {
     // Nowhere.

@@ -18,10 +18,7 @@ impl<T: IntoNaive> IntoNaive for Option<T> {
     type Word = Option<T::Word>;
 
     fn into_naive(self) -> Option<T::Word> {
-        match self {
-            Some(word) => Some(word.into_naive()),
-            None => None,
-        }
+        self.map(|word| word.into_naive())
     }
 }
 
@@ -30,10 +27,8 @@ impl<T: IntoNaive, E: IntoNaive> IntoNaive for Result<T, E> {
     type Word = Result<T::Word, E::Word>;
 
     fn into_naive(self) -> Result<T::Word, E::Word> {
-        match self {
-            Ok(word) => Ok(word.into_naive()),
-            Err(error) => Err(error.into_naive()),
-        }
+        self.map(|word| word.into_naive())
+            .map_err(|error| error.into_naive())
     }
 }
 
