@@ -14,9 +14,7 @@ mod tests {
     #[test]
     fn refused_in_order(rt: HostRuntime) -> Result<(), Fail> {
         let heights = [0, 5, 0];
-        if Table::check(&heights, 5, 0, 1).is_err() {
-            return Err(Fail::new("the sheet is refused"));
-        }
+        Table::check(&heights, 5, 0, 1)?;
         let mut survey = Survey::open(Table::new(&heights, 5, 0, 1), Setting::new(4, 256)?);
         let mut buf = [0xaa; 17];
         assert_eq!(rt;
@@ -50,9 +48,7 @@ mod tests {
     #[test]
     fn worked_example(rt: HostRuntime) -> Result<(), Fail> {
         let heights = [0, 4, 8, 10, 9, 5, 6, 9, 7, 3, 0];
-        if Table::check(&heights, 5, 0, 1).is_err() {
-            return Err(Fail::new("the sheet is refused"));
-        }
+        Table::check(&heights, 5, 0, 1)?;
         let mut survey = Survey::open(Table::new(&heights, 5, 0, 1), Setting::new(3, 256)?);
         let _ = survey.run(9);
         let mut short = [0; 29];
@@ -70,9 +66,7 @@ mod tests {
     #[test]
     fn longest(rt: HostRuntime) -> Result<(), Fail> {
         let heights = Vec::from_elem(rt.alloc(), 7i32, 4001)?;
-        if Table::check(&heights, 1, 0, 1).is_err() {
-            return Err(Fail::new("the sheet is refused"));
-        }
+        Table::check(&heights, 1, 0, 1)?;
         let mut survey = Survey::open(Table::new(&heights, 1, 0, 1), Setting::new(40_000, 256)?);
         for k in 0..256u32 {
             assert!(rt; survey.at(4000 - k * 15).is_ok());

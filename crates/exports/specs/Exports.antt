@@ -1,5 +1,5 @@
 -- What the exported functions answer for the bytes of a record.
-use Rattle.std.specs.Prelude.{ℕ, List, pos, Ok, Err, Result}
+use Rattle.std.specs.Prelude.{◌≡◌, ℕ, List, pos, Ok, Err, Result}
 use Rattle.std.specs.Result.{result_and}
 use Rattle.terms.specs.Limits.{touches_max}
 use Rattle.terms.specs.Meaning.{Meaning}
@@ -35,6 +35,11 @@ set_up b tolerance = tol (opened (gauge_of b) 0 touches_max) tolerance
 -- the tests of a record, and then of a tolerance
 abbrev pub opening_verdict : List ℕ → ℕ → Verdict
 opening_verdict b tolerance = result_and (record_verdict b record_name) (set_up b tolerance).answer
+
+-- that survey: its gauge means the record's, and its state is the defined one
+pub record IsSetUp (b : List ℕ) (tolerance : ℕ) (m : Meaning) (s : State) : Type 0 where
+  pub gauge : m ≡ gauge_of b
+  pub state : s ≡ (set_up b tolerance).after
 
 -- a run over the record with that budget
 abbrev pub ran : List ℕ → ℕ → ℕ → Outcome Course

@@ -1,16 +1,17 @@
 // The library for callers that are not Rattle: numbers and byte slices, a refusal as its number, values through `&mut`.
 #![tactic(auto)]
 
-ghost use Rattle.std.specs.Prelude.{◌≡◌, true, length, is_ok};
+ghost use Rattle.std.specs.Prelude.{◌≡◌, Ok, Err, length, IfOk, MatchResult};
+ghost use Rattle.records.specs.Laws.{record_meaning};
 ghost use Rattle.records.specs.Verdict.{record_verdict};
 ghost use Rattle.logs.specs.Logs.{state_of};
 ghost use Rattle.certificates.specs.Verdict.{verdict_on, left_by_survey};
-ghost use Rattle.exports.specs.Exports.{number_of, record_name, set_up, opening_verdict, ran, figures_with, figures_of, figures_left, settling, unless_refused, probed_answer, probed_left, certificate_answer, certificate_left, length_left};
+ghost use Rattle.exports.specs.Exports.{number_of, opening_verdict, IsSetUp, figures_with, figures_left, settling, certificate_answer, certificate_left, length_left};
 
 use bed::survey::Survey;
+use bed::survey::opening::start;
 use certificates::writer::certify;
 use gauges::gauge::Gauge;
-use logs::setting::Setting;
 use records::record::{Record, check};
 use surveys::answers::{Course, Report};
 use terms::limits::TOUCHES_MAX;
@@ -59,27 +60,36 @@ fn figures_with(course: Course, told: Result<Report, Refusal>) -> Figures
     }
 }
 
-// The setting before the tolerance is set.
-fn start() -> Setting
-    ensures { (result.tolerance ≡ 0) × (result.limit ≡ 256) }
+// The survey of a record at a tolerance, once both have passed their tests.
+fn open(bytes: &[u8], tolerance: u32) -> Result<Survey<Record<'_>>, Refusal>
+    ensures verdict { MatchResult result (λ _. opening_verdict bytes.now tolerance ≡ Ok tt) (λ r. opening_verdict bytes.now tolerance ≡ Err r) }
+    ensures survey { IfOk result (λ s. IsSetUp bytes.now tolerance (record_meaning s.gauge.bytes.now s.gauge.name) (state_of s.log)) }
 {
-    Setting {
-        tolerance: 0,
-        limit: TOUCHES_MAX as u16,
-    }
-}
-
-// Runs over an accepted record.
-fn run(bytes: &[u8], tolerance: u32, budget: u32, figures: &mut Figures) -> Result<(), Refusal>
-    requires { is_ok (record_verdict bytes.now record_name) ≡ true }
-    ensures answer { result ≡ (set_up bytes.now tolerance).answer }
-    ensures figures { figures.new ≡ unless_refused result (figures_of (ran bytes.now tolerance budget)) figures.old }
-{
+    check(bytes, NAME)?;
     let mut survey = Survey::open(Record::new(bytes, NAME), start());
     survey.tol(tolerance)?;
+    Ok(survey)
+}
+
+// Runs over a record.
+fn run(bytes: &[u8], tolerance: u32, budget: u32, figures: &mut Figures) -> Result<(), Refusal>
+    ensures answer { result ≡ opening_verdict bytes.now tolerance }
+    ensures figures { figures.new ≡ figures_left bytes.now tolerance budget figures.old }
+{
+    let mut survey = open(bytes, tolerance)?;
     let course = survey.run(budget);
     *figures = figures_with(course, survey.ask());
     Ok(())
+}
+
+// 0 where accepted, else the number of the refusal.
+fn number_of<T: Copy>(answer: Result<T, Refusal>) -> u8
+    ensures { result ≡ number_of answer }
+{
+    match answer {
+        Ok(_) => 0,
+        Err(refusal) => refusal.number(),
+    }
 }
 
 // Tests a record that is to be the gauge of that name: 0, or the number of the refusal.
@@ -87,10 +97,7 @@ fn run(bytes: &[u8], tolerance: u32, budget: u32, figures: &mut Figures) -> Resu
 pub extern "C" fn survey_check(bytes: &[u8], name: u8) -> u8
     ensures { result ≡ number_of (record_verdict bytes.now name) }
 {
-    match check(bytes, name) {
-        Ok(()) => 0,
-        Err(refusal) => refusal.number(),
-    }
+    number_of(check(bytes, name))
 }
 
 // Runs high over a record at a tolerance, and tells the figures: 0, or the number of the refusal, which leaves the figures as they were.
@@ -99,13 +106,7 @@ pub extern "C" fn survey_run(bytes: &[u8], tolerance: u32, budget: u32, figures:
     ensures answer { result ≡ number_of (opening_verdict bytes.now tolerance) }
     ensures figures { figures.new ≡ figures_left bytes.now tolerance budget figures.old }
 {
-    if let Err(refusal) = check(bytes, NAME) {
-        return refusal.number();
-    }
-    match run(bytes, tolerance, budget, figures) {
-        Ok(()) => 0,
-        Err(refusal) => refusal.number(),
-    }
+    number_of(run(bytes, tolerance, budget, figures))
 }
 
 // Touches until the survey is settled, or the budget is spent, and writes its certificate.
@@ -121,14 +122,12 @@ fn settle<G: Gauge>(
     certify(survey.log(), buffer)
 }
 
-// The certificate of the sheet of an accepted record.
+// The certificate of the sheet of a record.
 fn certificate(bytes: &[u8], tolerance: u32, buffer: &mut [u8]) -> Result<usize, Refusal>
-    requires { is_ok (record_verdict bytes.now record_name) ≡ true }
-    ensures answer { result ≡ probed_answer bytes.now tolerance (length buffer.old) }
-    ensures bytes { buffer.new ≡ probed_left bytes.now tolerance buffer.old }
+    ensures answer { result ≡ certificate_answer bytes.now tolerance (length buffer.old) }
+    ensures bytes { buffer.new ≡ certificate_left bytes.now tolerance buffer.old }
 {
-    let mut survey = Survey::open(Record::new(bytes, NAME), start());
-    survey.tol(tolerance)?;
+    let mut survey = open(bytes, tolerance)?;
     settle(&mut survey, TOUCHES_MAX, buffer)
 }
 
@@ -144,14 +143,9 @@ pub extern "C" fn survey_certificate(
     ensures bytes { buffer.new ≡ certificate_left bytes.now tolerance buffer.old }
     ensures written { written.new ≡ length_left (certificate_answer bytes.now tolerance (length buffer.old)) written.old }
 {
-    if let Err(refusal) = check(bytes, NAME) {
-        return refusal.number();
+    let answer = certificate(bytes, tolerance, buffer);
+    if let Ok(size) = answer {
+        *written = size;
     }
-    match certificate(bytes, tolerance, buffer) {
-        Ok(size) => {
-            *written = size;
-            0
-        }
-        Err(refusal) => refusal.number(),
-    }
+    number_of(answer)
 }

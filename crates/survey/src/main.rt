@@ -6,29 +6,28 @@ use std::process::ExitCode;
 use std::{fs, io};
 use transcripts::print::{input_bound, is_accepted, print, sheet_bound};
 
+// The first bytes that are read, as many as the bound says.
+fn read_first(rt: &HostRuntime, from: impl Read + Drop, bound: u64) -> io::Result<Vec<u8>> {
+    let mut bytes = Vec::new(rt.alloc());
+    from.take(bound).read_to_end(&mut bytes)?;
+    Ok(bytes)
+}
+
 // The first bytes of the record, and none where there is no such file.
 fn read_sheet(rt: &HostRuntime) -> io::Result<Vec<u8>> {
-    let mut bytes = Vec::new(rt.alloc());
     match fs::open(rt, "sheet.rec") {
-        Ok(file) => {
-            file.take(sheet_bound()).read_to_end(&mut bytes)?;
-        }
-        Err(e) => {
-            if e.kind() != ErrorKind::NotFound {
-                return Err(e);
-            }
-        }
+        Ok(file) => read_first(rt, file, sheet_bound()),
+        Err(error) if error.kind() == ErrorKind::NotFound => Ok(Vec::new(rt.alloc())),
+        Err(error) => Err(error),
     }
-    Ok(bytes)
 }
 
 // The first bytes of the input; a refused record has none read.
 fn read_input(rt: &HostRuntime, sheet: &[u8]) -> io::Result<Vec<u8>> {
-    let mut bytes = Vec::new(rt.alloc());
-    if is_accepted(sheet) {
-        rt.stdin().take(input_bound()).read_to_end(&mut bytes)?;
+    if !is_accepted(sheet) {
+        return Ok(Vec::new(rt.alloc()));
     }
-    Ok(bytes)
+    read_first(rt, rt.stdin(), input_bound())
 }
 
 fn run(rt: &HostRuntime) -> anyhow::Result<()> {

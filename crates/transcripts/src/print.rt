@@ -1,22 +1,20 @@
 ghost use Rattle.std.specs.Prelude.{◌≡◌, [], ◌∷◌, ◌++◌, length, is_ok, IfOk, string_bytes, codes, decimal};
-ghost use Rattle.terms.specs.Limits.{touches_max};
 ghost use Rattle.terms.specs.Refusals.{number};
 ghost use Rattle.records.specs.Verdict.{record_verdict};
 ghost use Rattle.surveys.specs.Moments.{answers_to};
 ghost use Rattle.commands.specs.Lines.{line_end};
 ghost use Rattle.commands.specs.Orders.{orders};
 ghost use Rattle.transcripts.specs.Talks.{EveryTalkKeepsTheLaw, ReadsEnough, SixWords, WorkedTalk, sheet_read, input_read};
-ghost use Rattle.transcripts.specs.Transcripts.{gauge_name, start_tolerance, started, transcript, unless_long, printed};
+ghost use Rattle.transcripts.specs.Transcripts.{gauge_name, started, transcript, unless_long, printed};
 
 use crate::lines::{gather_calls, print_lines};
+use bed::survey::opening::start;
 use bed::work::work_through;
 use gauges::gauge::Gauge;
-use logs::setting::Setting;
 use records::record::{Record, check};
 use std::alloc::{AllocError, Global};
 use surveys::answers::Answer;
 use surveys::calls::Call;
-use terms::limits::TOUCHES_MAX;
 use terms::refusal::Refusal;
 
 // The name of the record's gauge.
@@ -30,16 +28,6 @@ const INPUT_MAX: usize = 4_096;
 
 // Stands in the buffer before the answers do.
 const BLANK: Answer = Answer::Set(Ok(()));
-
-// The setting at the start.
-fn start() -> Setting
-    ensures { (result.tolerance ≡ start_tolerance) × (result.limit ≡ touches_max) }
-{
-    Setting {
-        tolerance: 0,
-        limit: TOUCHES_MAX as u16,
-    }
-}
 
 // Works through the calls to a survey of the gauge; the answers fill the buffer.
 fn make_calls<G: Gauge + Drop>(gauge: G, calls: &[Call], answers: &mut [Answer])

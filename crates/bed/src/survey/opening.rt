@@ -1,5 +1,6 @@
 // Opening touches nothing.
 ghost use Rattle.std.specs.Prelude.{◌≡◌};
+ghost use Rattle.terms.specs.Limits.{touches_max};
 ghost use Rattle.caps.specs.Touches.{WithinLimits};
 ghost use Rattle.surveys.specs.States.{line_of, opened};
 ghost use Rattle.logs.specs.Logs.{state_of};
@@ -9,6 +10,17 @@ use caps::Line;
 use gauges::gauge::Gauge;
 use logs::log::Log;
 use logs::setting::Setting;
+use terms::limits::TOUCHES_MAX;
+
+// The setting of a survey whose tolerance is not yet set.
+pub fn start() -> Setting
+    ensures { (result.tolerance ≡ 0) × (result.limit ≡ touches_max) }
+{
+    Setting {
+        tolerance: 0,
+        limit: TOUCHES_MAX as u16,
+    }
+}
 
 // The line of a gauge.
 fn line<G: Gauge>(gauge: &G) -> Line

@@ -1,7 +1,7 @@
 use Rattle.std.proofs.Common.{◌≡◌, ◌++◌, length, take, drop}
 use Rattle.surveys.specs.Moments.{moment, answers_to}
 use Rattle.logs.specs.Logs.{state_of}
-use Rattle.bed.proofs.work.work_through.Given as goal
+use Rattle.bed.proofs.work.work.Given as goal
 
 abbrev pub invariant-loop-i : goal.invariant-loop-i
 invariant-loop-i g l =

@@ -10,7 +10,7 @@ use Rattle.surveys.proofs.Figures.{worked}
 use Rattle.surveys.proofs.Whole.{law_holds}
 use Rattle.logs.specs.Logs.{state_of}
 use Rattle.bed.proofs.Listing.{made_within, next_state, next_answers, front_is}
-use Rattle.bed.proofs.work.work_through.Goals as goal
+use Rattle.bed.proofs.work.work.Goals as goal
 
 pub loop-i-preserved : goal.loop-i-preserved
 loop-i-preserved g c =
