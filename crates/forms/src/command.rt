@@ -1,9 +1,10 @@
 // The command `certify`, over the runtime.
-use crate::policy::{Policy, policy_for};
+use crate::output::Output;
 use anyhow::anyhow;
+use policies::policy::policy_for;
 use std::env::Args;
 use std::fs;
-use std::io::{Read, Write};
+use std::io::Read;
 
 const USAGE: &str = "usage: certify TOLERANCE, in a folder with sheet.rec";
 
@@ -35,17 +36,14 @@ fn read_record(rt: &HostRuntime) -> anyhow::Result<Vec<u8>> {
 // Surveys the sheet, prints the form, and writes the certificate; where there is none, says why.
 pub fn run(rt: &HostRuntime, tolerance: u32) -> anyhow::Result<()> {
     let record = read_record(rt)?;
-    let Policy { form, certificate } = policy_for(rt, &record, tolerance)?;
-    rt.stdout().write_all(form.as_bytes())?;
-    match certificate {
+    let mut paper = Output::new(rt);
+    match policy_for(rt.alloc(), &mut paper, &record, tolerance)? {
         Ok(bytes) => {
             fs::write(rt, CERTIFICATE_PATH, bytes.as_slice())?;
             let length = bytes.len();
             println!(rt; "certificate of {length} bytes written to {CERTIFICATE_PATH}")?;
             Ok(())
         }
-        Err(refusal) => Err(anyhow!(format!(in rt.alloc();
-            "no certificate, refused with {refusal}"
-        )?)),
+        Err(refusal) => Err(anyhow!("no certificate, refused with {refusal}")),
     }
 }

@@ -1,7 +1,5 @@
-// What the program `certify` does for the policy file: it surveys a sheet, fills the insurer's form and makes the certificate.
+// What the program `certify` does for the policy file: it surveys a sheet, prints the insurer's form and writes the certificate.
 #![tactic(auto)]
 
 pub mod command;
-mod form;
-mod policy;
-mod units;
+mod output;

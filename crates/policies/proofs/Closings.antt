@@ -19,7 +19,7 @@ use Rattle.certificates.specs.Layout.{touch_fields, certificate_fields, certific
 use Rattle.certificates.specs.Verdict.{settled_or, with_room, written, certificate_verdict, left_by, certificate_leaves}
 use Rattle.policies.specs.Lines.{known_text}
 use Rattle.policies.specs.Probes.{room, after_highs, touches_told}
-use Rattle.policies.specs.Policies.{bytes_or, certificate_bytes, certificate_told, or_stop, Closed, probed, survey_text, gauge_name, gauge_of, start_of, text_unless, Ends}
+use Rattle.policies.specs.Policies.{bytes_or, certificate_bytes, certificate_told, or_stop, Closed, probed, survey_text, gauge_name, gauge_of, text_unless, Ends}
 
 -- where there is room for it, a certificate is refused only by 19 and 20
 roomy : (size room : ℕ) (v : Result Outlook Refusal) → size ≤ room → with_room size room v ≡ v
@@ -111,14 +111,12 @@ module _ (m : Meaning) (s : State) (R : Readings) (start after : State) (same : 
       let there = subst (λ (a : State). Closed R a c) (left ∙ ap (λ (x : State). after_highs (room x) R x) opens) here in
       subst (λ (Q : Readings). Closed Q (after_highs (room s) Q s) c) same there
 
--- what holds of the gauge and the start that were made holds of those that were asked for
-pub as_asked : (P : Meaning → State → Type 0) (b sheet : List ℕ) (name t l tolerance : ℕ) → b ≡ sheet → name ≡ gauge_name → t ≡ tolerance → l ≡ touches_max →
-    P (record_meaning b name) (opened (record_meaning b name) t l) → P (gauge_of sheet) (start_of sheet tolerance)
-as_asked P b sheet name t l tolerance e f g h p =
-    subst (λ n. P (gauge_of sheet) (opened (gauge_of sheet) tolerance n)) h
-    (subst (λ n. P (gauge_of sheet) (opened (gauge_of sheet) n l)) g
-    (subst (λ n. P (record_meaning sheet n) (opened (record_meaning sheet n) t l)) f
-    (subst (λ (x : List ℕ). P (record_meaning x name) (opened (record_meaning x name) t l)) e p)))
+-- what holds of the start that was made holds of the one that was asked for, and what holds of a record's gauge, of the gauge of its bytes
+pub as_asked : (P : State → Type 0) (m : Meaning) (t l tolerance : ℕ) → t ≡ tolerance → l ≡ touches_max → P (opened m t l) → P (opened m tolerance touches_max)
+as_asked P m t l tolerance e f p = subst (λ n. P (opened m tolerance n)) f (subst (λ n. P (opened m n l)) e p)
+
+pub of_record : (P : Meaning → Type 0) (b sheet : List ℕ) (name : ℕ) → b ≡ sheet → name ≡ gauge_name → P (record_meaning b name) → P (gauge_of sheet)
+of_record P b sheet name e f p = subst (λ n. P (record_meaning sheet n)) f (subst (λ (x : List ℕ). P (record_meaning x name)) e p)
 
 -- where something refuses before the first touch, nothing is printed, and that is answered
 pub silent_if : (before text : List ℕ) (o : Option Refusal) (e : Refusal) → o ≡ Some e → before ≡ before ++ text_unless o text

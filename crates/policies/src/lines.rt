@@ -1,5 +1,5 @@
 // The lines of the insurer's form.
-ghost use Rattle.std.specs.Prelude.{◌≡◌, ◌++◌, string_bytes, codes, OnOk};
+ghost use Rattle.std.specs.Prelude.{◌≡◌, ◌++◌, string_bytes, OnOk};
 ghost use Rattle.logs.specs.Logs.{state_of};
 ghost use Rattle.policies.specs.Lines.{touch_text, which_text, ends_text, summit_text, span_text, spans_text, bounds_text, tally_text, known_text};
 
@@ -23,9 +23,9 @@ pub(crate) fn put_touch(
     let place = Place(touch.position);
     let height = Height(i32::from(touch.height));
     let ceiling = Height(ceiling);
-    write!(
+    writeln!(
         out,
-        "touch {number} at {place}: height {height}, ceiling {ceiling}\n"
+        "touch {number} at {place}: height {height}, ceiling {ceiling}"
     )
 }
 
@@ -55,7 +55,7 @@ fn put_summit(out: &mut String, summit: Summit) -> Result<(), AllocError>
 {
     let cap = Height(summit.cap);
     let place = Place(summit.place);
-    write!(out, ": at most {cap}, first at {place}\n")
+    writeln!(out, ": at most {cap}, first at {place}")
 }
 
 // How high the glass can stand in a gap.
@@ -76,13 +76,6 @@ fn put_spans(out: &mut String, last: u16, spans: &[Span]) -> Result<(), AllocErr
     Ok(())
 }
 
-// That there is neither floor nor ceiling.
-fn put_nothing(out: &mut String) -> Result<(), AllocError>
-    ensures { OnOk result (string_bytes out.new ≡ string_bytes out.old ++ codes "nothing is touched\n") }
-{
-    write!(out, "nothing is touched\n")
-}
-
 // Floor and ceiling.
 fn put_bounds(out: &mut String, seen: Option<Outlook>) -> Result<(), AllocError>
     ensures { OnOk result (string_bytes out.new ≡ string_bytes out.old ++ bounds_text seen) }
@@ -92,9 +85,9 @@ fn put_bounds(out: &mut String, seen: Option<Outlook>) -> Result<(), AllocError>
             let floor = Height(i32::from(seen.floor.height));
             let place = Place(seen.floor.position);
             let ceiling = Height(seen.ceiling);
-            write!(out, "floor {floor} at {place}, ceiling {ceiling}\n")
+            writeln!(out, "floor {floor} at {place}, ceiling {ceiling}")
         }
-        None => put_nothing(out),
+        None => writeln!(out, "nothing is touched"),
     }
 }
 
@@ -102,7 +95,7 @@ fn put_bounds(out: &mut String, seen: Option<Outlook>) -> Result<(), AllocError>
 fn put_tally(out: &mut String, touches: u16, most: u32) -> Result<(), AllocError>
     ensures { OnOk result (string_bytes out.new ≡ string_bytes out.old ++ tally_text touches most) }
 {
-    write!(out, "touches {touches}, by the rules at most {most}\n")
+    writeln!(out, "touches {touches}, by the rules at most {most}")
 }
 
 // What is known: each gap in rising order, floor and ceiling, and the touches.

@@ -1,13 +1,12 @@
 // A sheet's way from its record to its certificate.
-ghost use Rattle.std.specs.Prelude.{◌≡◌, true, ◌++◌, is_ok, IfOk, vec_items, vec_len, OnOk};
+ghost use Rattle.std.specs.Prelude.{◌≡◌, ◌++◌, IfOk, vec_items, vec_len, OnOk};
 ghost use Rattle.terms.specs.Limits.{touches_max};
-ghost use Rattle.records.specs.Verdict.{record_verdict};
 ghost use Rattle.surveys.specs.States.{opened, opening_refusal};
 ghost use Rattle.logs.specs.Logs.{state_of};
 ghost use Rattle.logs.specs.Settings.{SetAsAsked};
 ghost use Rattle.certificates.specs.Layout.{certificate_size};
 ghost use Rattle.policies.specs.Lines.{known_text};
-ghost use Rattle.policies.specs.Policies.{as_list, certificate_told, or_stop, Closed, probed, survey_text, gauge_name, gauge_of, start_of, text_unless, Ends, form_text, PolicyOf};
+ghost use Rattle.policies.specs.Policies.{as_list, certificate_told, or_stop, Closed, probed, survey_text, text_unless, Ends, form_text, PolicyOf};
 
 use crate::lines::put_known;
 use crate::paper::Paper;
@@ -40,23 +39,17 @@ fn certificate(heap: Global, log: &Log) -> Result<Result<Vec<u8>, Refusal>, Allo
     ensures { IfOk result (λ c. as_list vec_items c ≡ certificate_told (state_of log.now)) }
 {
     let mut bytes = blank(heap)?;
-    match certify(log, bytes.as_mut_slice()) {
-        Ok(length) => {
-            bytes.truncate(length);
-            Ok(Ok(bytes))
-        }
-        Err(refusal) => Ok(Err(refusal)),
-    }
+    Ok(certify(log, bytes.as_mut_slice()).map(|length| {
+        bytes.truncate(length);
+        bytes
+    }))
 }
 
 // The certificate of a survey; where there is none, the refusal that the probing stopped with.
 fn close(heap: Global, log: &Log, stop: Refusal) -> Result<Result<Vec<u8>, Refusal>, AllocError>
     ensures { IfOk result (λ c. as_list vec_items c ≡ or_stop stop (certificate_told (state_of log.now))) }
 {
-    match certificate(heap, log)? {
-        Ok(bytes) => Ok(Ok(bytes)),
-        Err(_) => Ok(Err(stop)),
-    }
+    Ok(certificate(heap, log)?.or(Err(stop)))
 }
 
 // Prints what is known of a survey.
@@ -91,22 +84,18 @@ fn setting_for(tolerance: u32) -> Result<Setting, Refusal>
     Setting::new(tolerance, TOUCHES_MAX)
 }
 
-// The policy of an accepted record: the tolerance may be refused.
-fn survey_record<P: Paper>(
+// The policy of a gauge: the tolerance may be refused.
+fn survey_gauge<G: Gauge + Drop, P: Paper>(
     heap: Global,
     paper: &mut P,
-    bytes: &[u8],
+    gauge: G,
     tolerance: u32,
 ) -> anyhow::Result<Result<Vec<u8>, Refusal>>
-    requires { is_ok (record_verdict bytes.now gauge_name) ≡ true }
-    ensures text { OnOk result (P.Paper.said paper.new ≡ P.Paper.said paper.old ++ text_unless (opening_refusal tolerance touches_max) (survey_text (gauge_of bytes.now) (start_of bytes.now tolerance))) }
-    ensures policy { IfOk result (λ c. Ends (opening_refusal tolerance touches_max) (gauge_of bytes.now) (start_of bytes.now tolerance) (as_list vec_items c)) }
+    ensures text { OnOk result (P.Paper.said paper.new ≡ P.Paper.said paper.old ++ text_unless (opening_refusal tolerance touches_max) (survey_text (G.Gauge.meaning gauge) (opened (G.Gauge.meaning gauge) tolerance touches_max))) }
+    ensures policy { IfOk result (λ c. Ends (opening_refusal tolerance touches_max) (G.Gauge.meaning gauge) (opened (G.Gauge.meaning gauge) tolerance touches_max) (as_list vec_items c)) }
 {
     match setting_for(tolerance) {
-        Ok(setting) => {
-            let gauge = Record::new(bytes, GAUGE_NAME);
-            survey_line(heap, paper, gauge, setting)
-        }
+        Ok(setting) => survey_line(heap, paper, gauge, setting),
         Err(refusal) => Ok(Err(refusal)),
     }
 }
@@ -123,6 +112,6 @@ pub fn policy_for<P: Paper>(
 {
     match check(bytes, GAUGE_NAME) {
         Err(refusal) => Ok(Err(refusal)),
-        Ok(()) => survey_record(heap, paper, bytes, tolerance),
+        Ok(()) => survey_gauge(heap, paper, Record::new(bytes, GAUGE_NAME), tolerance),
     }
 }

@@ -5,4 +5,4 @@ use Rattle.policies.proofs.lines.put_summit.Goals as goal
 pub returns : goal.returns
 returns c =
     let f : SFits w32 c.args.summit.cap = search rules in
-    simp to_z-of_z at c.write.ensures.bytes
+    simp to_z-of_z at c.writeln.ensures.bytes

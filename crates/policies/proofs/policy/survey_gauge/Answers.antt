@@ -2,16 +2,15 @@ use Rattle.std.proofs.Common.{◌≡◌, ◌++◌, IfOk, vec_items, Option, sym,
 use Rattle.terms.specs.Limits.{touches_max}
 use Rattle.terms.specs.Meaning.{Meaning}
 use Rattle.terms.specs.declared.refusal.Refusal.{Refusal}
-use Rattle.surveys.specs.States.{State, opening_refusal}
-use Rattle.policies.specs.Policies.{as_list, Closed, probed, survey_text, gauge_of, start_of, text_unless, Ends}
+use Rattle.surveys.specs.States.{State, opened, opening_refusal}
+use Rattle.policies.specs.Policies.{as_list, Closed, probed, survey_text, text_unless, Ends}
 use Rattle.policies.proofs.Closings.{as_asked, silent_if, ends_if}
-use Rattle.policies.proofs.policy.survey_record.Goals as goal
+use Rattle.policies.proofs.policy.survey_gauge.Goals as goal
 
 pub returns-in-Ok : goal.returns-in-Ok
 returns-in-Ok g c =
-    let sheet = c.args.bytes.now in
+    let m : Meaning = g.G.Gauge.meaning c.args.gauge in
     let tolerance = c.args.tolerance in
-    let gauge = c.new-gauge.result in
     let set = c.in-Ok.setting in
     let asked = c.in-Ok.ensures in
     let before = g.P.Paper.said c.args.paper.now in
@@ -19,13 +18,11 @@ returns-in-Ok g c =
     let r = c.survey_line.result in
     record {
       text =
-          subst (λ (o : Option Refusal). IfOk r (λ _. after ≡ before ++ text_unless o (survey_text (gauge_of sheet) (start_of sheet tolerance)))) (sym asked.0)
-          (as_asked (λ (m : Meaning) (s : State). IfOk r (λ _. after ≡ before ++ survey_text m s)) gauge.bytes.now sheet gauge.name set.tolerance set.limit tolerance
-          c.new-gauge.ensures.0 c.new-gauge.ensures.1 asked.1 asked.2 c.survey_line.ensures.text);
+          subst (λ (o : Option Refusal). IfOk r (λ _. after ≡ before ++ text_unless o (survey_text m (opened m tolerance touches_max)))) (sym asked.0)
+          (as_asked (λ (s : State). IfOk r (λ _. after ≡ before ++ survey_text m s)) m set.tolerance set.limit tolerance asked.1 asked.2 c.survey_line.ensures.text);
       policy =
-          subst (λ (o : Option Refusal). IfOk r (λ x. Ends o (gauge_of sheet) (start_of sheet tolerance) (as_list vec_items x))) (sym asked.0)
-          (as_asked (λ (m : Meaning) (s : State). IfOk r (λ x. Closed m.reading (probed m s) (as_list vec_items x))) gauge.bytes.now sheet gauge.name set.tolerance set.limit tolerance
-          c.new-gauge.ensures.0 c.new-gauge.ensures.1 asked.1 asked.2 c.survey_line.ensures.certificate);
+          subst (λ (o : Option Refusal). IfOk r (λ x. Ends o m (opened m tolerance touches_max) (as_list vec_items x))) (sym asked.0)
+          (as_asked (λ (s : State). IfOk r (λ x. Closed m.reading (probed m s) (as_list vec_items x))) m set.tolerance set.limit tolerance asked.1 asked.2 c.survey_line.ensures.certificate);
     }
 
 pub returns-in-Err : goal.returns-in-Err
