@@ -20,18 +20,11 @@ fn line_start(bytes: &[u8]) -> Option<usize>
     bytes.iter().position(|byte| *byte != LINE_END)
 }
 
-// Where the line end stands that ends it.
-fn line_end(bytes: &[u8]) -> Option<usize>
-    ensures { result ≡ position (λ b. b == line_end) bytes.now }
+// Where the first byte of that value stands.
+fn find(bytes: &[u8], wanted: u8) -> Option<usize>
+    ensures { result ≡ position (λ b. b == wanted) bytes.now }
 {
-    bytes.iter().position(|byte| *byte == LINE_END)
-}
-
-// Where the space stands that ends the first word.
-fn word_end(line: &[u8]) -> Option<usize>
-    ensures { result ≡ position (λ b. b == space) line.now }
-{
-    line.iter().position(|byte| *byte == SPACE)
+    bytes.iter().position(|byte| *byte == wanted)
 }
 
 // The command of a line that is one word.
@@ -98,7 +91,7 @@ pub(crate) fn read_line(line: Part<'_>) -> Command<'_>
     requires { line.place + length line.bytes.now < 2 ^ 64 }
     ensures { order result ≡ order_of (piece line.entry) }
 {
-    let Some(n) = word_end(line.bytes) else {
+    let Some(n) = find(line.bytes, SPACE) else {
         return read_alone(line);
     };
     let digits = rest_of(line, n);
@@ -115,7 +108,7 @@ pub(crate) fn next_line(input: &[u8], from: usize) -> Option<Part<'_>>
 {
     let place = from + line_start(&input[from..])?;
     let rest = &input[place..];
-    let length = line_end(rest).unwrap_or(rest.len());
+    let length = find(rest, LINE_END).unwrap_or(rest.len());
     Some(Part {
         bytes: &rest[..length],
         place,

@@ -39,7 +39,7 @@ impl Fault {
         }
     }
 
-    // The fault of the gauge of that name at a position where it has no reading.
+    // The fault of the gauge of that name at a position where it has no reading. A literal of its own, as `beyond` has: a function below both would only name the cause.
     pub fn unread(position: u32, gauge: u8) -> Fault
         ensures { result ≡ unread position gauge }
     {
