@@ -1,7 +1,7 @@
 // Reads a line where it lies.
 ghost use Rattle.std.specs.Prelude.{◌≡◌, ◌+◌, ◌^◌, ◌<◌, ◌≤◌, length, not, position, ◌==◌};
 ghost use Rattle.commands.specs.Pieces.{piece};
-ghost use Rattle.commands.specs.Lines.{line_end, space, NextLine};
+ghost use Rattle.commands.specs.Lines.{line_end, NextLine};
 ghost use Rattle.commands.specs.Theorems.{LinesAreTheInput, CallsAsWritten, NumbersReadBack};
 ghost use Rattle.commands.specs.Orders.{order, alone, numbered, before_space, after_space, order_of, NextOrder};
 

@@ -60,6 +60,7 @@ pub fn summarize<G: Gauge>(gauge: &G) -> Summary
         lowest: None,
         highest: None,
     };
+    // A loop and no `fold`: that the count stays in range hangs on the positions passed, which the fold's closure does not see.
     for position in 0..gauge.last() + 1 {
         so_far = with_reading(so_far, position, gauge.read(position));
     }
