@@ -28,16 +28,15 @@ impl Looks {
         chance: &mut Chance,
         sheet: &Sheet,
     ) -> Result<Vec<Touch>, AllocError> {
-        let mut touches = Vec::new(heap);
-        for (position, height) in sheet.heights.iter().enumerate() {
-            if *height != MARK && touches.len() < 256 && chance.once_in(self.one_in) {
-                touches.push(Touch {
-                    position: u16::try_from(position).unwrap_or(0),
-                    height: i16::try_from(*height).unwrap_or(0),
-                })?;
-            }
-        }
-        Ok(touches)
+        (0..)
+            .zip(&sheet.heights)
+            .filter(|(_, height)| **height != MARK && chance.once_in(self.one_in))
+            .map(|(position, height)| Touch {
+                position,
+                height: i16::try_from(*height).unwrap_or(0),
+            })
+            .take(256)
+            .collect(heap)
     }
 }
 

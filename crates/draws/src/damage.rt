@@ -1,6 +1,6 @@
 // Records that are damaged, and sheets that are.
 use crate::chance::Chance;
-use std::alloc::{AllocError, Global};
+use std::alloc::AllocError;
 
 // Where a record is damaged: data, since the kinds of cases are constants and those can hold no closure.
 #[derive(Clone, Copy, PartialEq, Eq, Debug)]
@@ -73,10 +73,8 @@ fn change_all(chance: &mut Chance, bytes: &mut [u8], from: usize) {
 
 // Adds some bytes, half of the time 0.
 fn lengthen(chance: &mut Chance, bytes: &mut Vec<u8>) -> Result<(), AllocError> {
-    for _ in 0..chance.between(1, 5) {
-        bytes.push(if chance.once_in(2) { 0 } else { chance.byte() })?;
-    }
-    Ok(())
+    let count = chance.between(1, 5);
+    bytes.extend((0..count).map(|_| if chance.once_in(2) { 0 } else { chance.byte() }))
 }
 
 // Cuts a record off.

@@ -45,11 +45,11 @@ fn call_text(heap: Global, call: Call, width: usize) -> Result<String, AllocErro
 
 // Adds some bytes, each of any value but for the line end.
 fn push_noise(chance: &mut Chance, input: &mut Vec<u8>) -> Result<(), AllocError> {
-    for _ in 0..chance.between(1, 9) {
-        let byte = chance.byte();
-        input.push(if byte == 0x0A { 0 } else { byte })?;
-    }
-    Ok(())
+    let count = chance.between(1, 9);
+    input.extend((0..count).map(|_| match chance.byte() {
+        0x0A => 0,
+        byte => byte,
+    }))
 }
 
 // Adds a line: mostly a call, else nothing, noise or something near a command.

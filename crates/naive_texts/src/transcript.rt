@@ -42,10 +42,9 @@ fn reply(
 fn talk(heap: Global, gauge: &Meaning, input: &[u8]) -> Result<String, AllocError> {
     let mut out = String::new(heap);
     let mut survey = Survey::open(heap, gauge.line, 0, 256);
-    for line in input.split(|byte| *byte == 0x0A) {
-        if !line.is_empty() {
-            out.push_str(reply(heap, &mut survey, gauge, line)?.as_str())?;
-        }
+    let lines = input.split(|byte| *byte == 0x0A);
+    for line in lines.filter(|line| !line.is_empty()) {
+        out.push_str(reply(heap, &mut survey, gauge, line)?.as_str())?;
     }
     Ok(out)
 }
