@@ -39,7 +39,7 @@ fn kept_within(from: u16, to: u16, x: u32) -> u16
     requires { from ≤ to }
     ensures { result ≡ within from to x }
 {
-    u32::from(from).max(u32::from(to).min(x)) as u16
+    x.clamp(u32::from(from), u32::from(to)) as u16
 }
 
 // A gap between touches lies below the line that rises from the left and the one that falls to the right.
