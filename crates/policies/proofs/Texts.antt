@@ -17,7 +17,3 @@ module _ (last : ℕ) (ss : List Span) (i : ℕ) where
 -- three texts, one after another
 pub three : (start one two end x y z a b c : List ℕ) → one ≡ start ++ x → x ≡ a → two ≡ one ++ y → y ≡ b → end ≡ two ++ z → z ≡ c → end ≡ start ++ (a ++ (b ++ c))
 three start one two end x y z a b c p q r s t u = cc (append_assoc start a (b ++ c), append_assoc (start ++ a) b c)
-
--- two texts, one after another
-pub two : (start one x a b : List ℕ) → one ≡ start ++ x → x ≡ a → one ++ b ≡ start ++ (a ++ b)
-two start one x a b p q = cc (append_assoc start a b)

@@ -25,7 +25,7 @@ use terms::refusal::Refusal;
 const GAUGE_NAME: u8 = 1;
 
 // The longest certificate: 98 bits and 28 for each of 256 touches, in whole bytes.
-const CERTIFICATE_MAX: usize = (98 + 28 * 256 + 7) / 8;
+const CERTIFICATE_MAX: usize = (98 + 28 * TOUCHES_MAX as usize + 7) / 8;
 
 // Room for the longest certificate.
 fn blank(heap: Global) -> Result<Vec<u8>, AllocError>

@@ -51,6 +51,7 @@ fn with_reading(so_far: Summary, position: u32, reading: Result<i32, Fault>) -> 
 }
 
 // Reads every position once.
+// A `for` and no fold: the closure of a fold needs a clause on the count so far, and the bound of that is found only from the loop's invariant.
 pub fn summarize<G: Gauge>(gauge: &G) -> Summary
     ensures sums { Summarizes (G.Gauge.meaning gauge.now) ((G.Gauge.meaning gauge.now).last + 1) result }
     ensures value { result ≡ summary_before (G.Gauge.meaning gauge.now) ((G.Gauge.meaning gauge.now).last + 1) }
