@@ -19,8 +19,8 @@ fn write_fields(buf: &mut [u8], slope: u32, slack: u32, heights: &[i32])
     LAST.put(buf, (heights.len() - 1) as u32);
     SLOPE.put(buf, slope);
     SLACK.put(buf, slack);
-    for (p, h) in heights.iter().enumerate() {
-        height_at(p).put_signed(buf, *h);
+    for (position, height) in heights.iter().enumerate() {
+        height_at(position).put_signed(buf, *height);
     }
 }
 

@@ -1,15 +1,6 @@
-use Rattle.std.proofs.Common.{◌≡◌, ◌+◌, ◌*◌, ◌≤◌, length, pos, subst, arith}
-use Rattle.std.proofs.ByRecursion.{All-get_or}
+use Rattle.std.proofs.Common.{◌≡◌, ◌+◌, ◌*◌, length, subst, arith}
 use Rattle.fields.proofs.Writes.{Wrote}
-use Rattle.caps.specs.declared.Touch.{Touch}
-use Rattle.terms.specs.Limits.{last_max}
 use Rattle.certificates.proofs.writer.write_touches.Goals as goal
-
-pub write_touch-requires : goal.write_touch-requires
-write_touch-requires c = record {
-  fits = (All-get_or (λ (t : Touch). t.position ≤ last_max) c.args.touches.now c.loop-place.place (record { position = 0; height = pos 0 }) (omega arith) c.requires.fits.0, omega arith);
-  room = omega arith;
-}
 
 pub loop-place-preserved : goal.loop-place-preserved
 loop-place-preserved c = λ f small says old start.

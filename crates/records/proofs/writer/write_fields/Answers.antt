@@ -31,22 +31,22 @@ module _ (m s : ℕ) (hs : List ℤ) (lm : m < 65536) (ls : s < 65536) (lh : len
       let h = subst (λ k. Wrote (bits_of fields) k a c) e (wrote_from (bits_of fields) 44 (44 + 16 * length hs) a b c (omega arith) p q) in
       wrote_all fields a c small (omega arith) h ∙ ap (λ k. record_of (sheet_with m s hs) ++ drop k a) n
 
-pub loop-p-init : goal.loop-p-init
-loop-p-init c = (
+pub loop-position-init : goal.loop-position-init
+loop-position-init c = (
   wrote_here _ 44 c.args.buf.now _ (head c.args.slope c.args.slack c.args.heights.now (omega arith) (omega arith) (omega arith) c.args.buf.now _ _ _ c.put.ensures.stored c.put-2.ensures.stored c.put-3.ensures.stored),
   (λ i. (c.type_inv.buf i).fits),
 )
 
-pub loop-p-preserved : goal.loop-p-preserved
-loop-p-preserved c =
-    let f : SFits w32 (get_or c.args.heights.now c.loop-p.p (pos 0)) = search rules in (
-      next c.args.slope c.args.slack c.args.heights.now (omega arith) (omega arith) (omega arith) _ _ _ c.loop-p.p (omega arith) c.loop-p.invariant.0 (simp (c.height_at.ensures.at, c.height_at.ensures.width, to_z-of_z) at c.put_signed.ensures),
+pub loop-position-preserved : goal.loop-position-preserved
+loop-position-preserved c =
+    let f : SFits w32 (get_or c.args.heights.now c.loop-position.position (pos 0)) = search rules in (
+      next c.args.slope c.args.slack c.args.heights.now (omega arith) (omega arith) (omega arith) _ _ _ c.loop-position.position (omega arith) c.loop-position.invariant.0 (simp (c.height_at.ensures.at, c.height_at.ensures.width, to_z-of_z) at c.put_signed.ensures),
       (λ i. (c.type_inv.buf i).fits),
     )
 
 pub returns : goal.returns
 returns c =
-    let e : c.loop-p.p ≡ length c.args.heights.now = omega arith in
-    let q = subst (λ k. Wrote (bits_of (fields_of (sheet_with c.args.slope c.args.slack c.args.heights.now))) (44 + 16 * k) c.put-3.new.buf c.loop-p.buf) e c.loop-p.invariant.0 in
-    all c.args.slope c.args.slack c.args.heights.now (omega arith) (omega arith) (omega arith) c.args.buf.now c.put-3.new.buf c.loop-p.buf c.loop-p.invariant.1 (omega arith)
+    let e : c.loop-position.position ≡ length c.args.heights.now = omega arith in
+    let q = subst (λ k. Wrote (bits_of (fields_of (sheet_with c.args.slope c.args.slack c.args.heights.now))) (44 + 16 * k) c.put-3.new.buf c.loop-position.buf) e c.loop-position.invariant.0 in
+    all c.args.slope c.args.slack c.args.heights.now (omega arith) (omega arith) (omega arith) c.args.buf.now c.put-3.new.buf c.loop-position.buf c.loop-position.invariant.1 (omega arith)
     (head c.args.slope c.args.slack c.args.heights.now (omega arith) (omega arith) (omega arith) c.args.buf.now _ _ _ c.put.ensures.stored c.put-2.ensures.stored c.put-3.ensures.stored) q

@@ -4,7 +4,7 @@ use Rattle.fields.proofs.Writes.{Wrote}
 use Rattle.records.specs.Sheet.{fields_of, sheet_with}
 use Rattle.records.proofs.writer.write_fields.Given as goal
 
-abbrev pub invariant-loop-p : goal.invariant-loop-p
-invariant-loop-p l =
-    Wrote (bits_of (fields_of (sheet_with l.slope l.slack l.heights))) (44 + 16 * l.p) l.initial.buf l.buf
+abbrev pub invariant-loop-position : goal.invariant-loop-position
+invariant-loop-position l =
+    Wrote (bits_of (fields_of (sheet_with l.slope l.slack l.heights))) (44 + 16 * l.position) l.initial.buf l.buf
     × ((i : ℕ) → get_or l.buf i 0 < 256)
