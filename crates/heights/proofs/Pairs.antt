@@ -1,5 +1,5 @@
 -- Running extremes of height ± slope × position tell whether one more height breaks the law.
-use Rattle.std.proofs.Common.{◌≡◌, ℕ, ◌+◌, ◌-◌, ◌*◌, ◌<◌, ◌≤◌, true, false, not, ◌⊎◌, List, length, ℤ, pos, negsuc, ◌+ℤ◌, ◌-ℤ◌, nat_abs, ◌≤ℤ◌, ◌<ℤ◌, is_some, Some, None, sym, refl, ap, ◌∙◌, inl, inr, ⊎_elim, mul-add, arith}
+use Rattle.std.proofs.Common.{◌≡◌, ℕ, ◌+◌, ◌-◌, ◌*◌, ◌<◌, ◌≤◌, true, false, not, ◌⊎◌, List, length, ℤ, pos, negsuc, ◌+ℤ◌, ◌-ℤ◌, nat_abs, ◌≤ℤ◌, ◌<ℤ◌, is_some, Some, None, sym, ap, ◌∙◌, inl, inr, ⊎_elim, mul-add, arith}
 use lib.Signed.{lt_z}
 use Rattle.std.specs.Int.{int_max, int_min}
 use Rattle.std.proofs.lemmas.Int.{ints, clamps}
@@ -25,9 +25,6 @@ pub record Bounds (slope : ℕ) (xs : List ℤ) (n : ℕ) (greatest least : ℤ)
   pub below : (i : ℕ) → i < n → marked (height_at xs i) ≡ false → least ≤ℤ (height_at xs i -ℤ pos (slope * i))
   pub at_greatest : (greatest ≡ negsuc 199999999) ⊎ ((i : ℕ) × (i < n) × (marked (height_at xs i) ≡ false) × (greatest ≡ height_at xs i +ℤ pos (slope * i)))
   pub at_least : (least ≡ pos 200000000) ⊎ ((i : ℕ) × (i < n) × (marked (height_at xs i) ≡ false) × (least ≡ height_at xs i -ℤ pos (slope * i)))
-
-pub bounds_none : (slope : ℕ) (xs : List ℤ) → Bounds slope xs 0 (negsuc 199999999) (pos 200000000)
-bounds_none slope xs = record { above = λ i l m. absurd (omega arith); below = λ i l m. absurd (omega arith); at_greatest = inl refl; at_least = inl refl }
 
 module _ (slope : ℕ) (xs : List ℤ) (n : ℕ) (greatest least : ℤ) (b : Bounds slope xs n greatest least) where
   -- a height without a reading changes nothing

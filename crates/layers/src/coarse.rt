@@ -30,6 +30,7 @@ impl<G: Gauge> Gauge for Coarse<G> {
 
     ghost lawful = { λ s. coarse_lawful s.step.size s.step.sized (G.Gauge.meaning s.lower) (G.Gauge.lawful s.lower) };
 
+    // The figures that stay are the lower gauge's own, told by a call each, as in Flip: nothing shared would be shorter.
     fn last(&self) -> u32 {
         self.lower.last()
     }

@@ -24,6 +24,7 @@ impl<G: Gauge> Gauge for Flip<G> {
 
     ghost lawful = { λ s. flip_lawful (G.Gauge.meaning s.lower) (G.Gauge.lawful s.lower) };
 
+    // The figures that stay are the lower gauge's own, told by a call each, as in Coarse: nothing shared would be shorter.
     fn last(&self) -> u32 {
         self.lower.last()
     }

@@ -1,6 +1,5 @@
 // What the layers on two gauges share: both read up to the smaller last position, the first gauge before the second.
-ghost use Rattle.std.specs.Prelude.{◌≡◌, ℤ, min, Ok, Err, IfOk};
-ghost use Rattle.terms.specs.Faults.{layer_name};
+ghost use Rattle.std.specs.Prelude.{◌≡◌, min, IfOk};
 ghost use Rattle.terms.specs.Meaning.{Height};
 ghost use Rattle.layers.specs.Layers.{both_up_to};
 
