@@ -1,6 +1,6 @@
 // The lines of a report.
 ghost use Rattle.std.specs.Prelude.{◌≡◌, ◌++◌, string_bytes, OnOk};
-ghost use Rattle.accounts.specs.Lines.{and_lines, figures_line, gauge_line, spot_line, readable_line, length_line, again_line, told_lines, reading_line, stack_lines};
+ghost use Rattle.accounts.specs.Lines.{and_lines, gauge_line, spot_line, told_lines, reading_line, stack_lines};
 
 use gauges::gauge::Gauge;
 use sheets::summary::{Spot, summarize};
@@ -19,39 +19,14 @@ fn put_spot(out: &mut String, which: &str, spot: Option<Spot>) -> Result<(), All
     }
 }
 
-// How many of the positions are readable.
-fn put_readable(out: &mut String, readable: u32, positions: u32) -> Result<(), AllocError>
-    ensures { OnOk result (string_bytes out.new ≡ string_bytes out.old ++ readable_line readable positions) }
-{
-    writeln!(out, "readable positions {readable} of {positions}")
-}
-
-// The record's length.
-pub(crate) fn put_length(out: &mut String, length: usize) -> Result<(), AllocError>
-    ensures { OnOk result (string_bytes out.new ≡ string_bytes out.old ++ length_line length) }
-{
-    writeln!(out, "record of {length} bytes")
-}
-
-// That packing again gave the same bytes.
-pub(crate) fn put_again(out: &mut String, length: usize) -> Result<(), AllocError>
-    ensures { OnOk result (string_bytes out.new ≡ string_bytes out.old ++ again_line length) }
-{
-    writeln!(out, "packed again: the same {length} bytes")
-}
-
-// Last position, slope and slack.
-fn put_figures(out: &mut String, last: u32, slope: u32, slack: u32) -> Result<(), AllocError>
-    ensures { OnOk result (string_bytes out.new ≡ string_bytes out.old ++ figures_line last slope slack) }
-{
-    writeln!(out, "last position {last}, slope {slope}, slack {slack}")
-}
-
-// Those of any gauge.
+// Last position, slope and slack of any gauge.
 fn put_line<G: Gauge>(out: &mut String, gauge: &G) -> Result<(), AllocError>
     ensures { OnOk result (string_bytes out.new ≡ string_bytes out.old ++ gauge_line (G.Gauge.meaning gauge.now)) }
 {
-    put_figures(out, gauge.last(), gauge.slope(), gauge.slack())
+    let last = gauge.last();
+    let slope = gauge.slope();
+    let slack = gauge.slack();
+    writeln!(out, "last position {last}, slope {slope}, slack {slack}")
 }
 
 // The figures, the number of readable positions, the lowest and the highest height of any gauge.
@@ -60,7 +35,9 @@ pub(crate) fn put_summary<G: Gauge>(out: &mut String, gauge: &G) -> Result<(), A
 {
     put_line(out, gauge)?;
     let summary = summarize(gauge);
-    put_readable(out, summary.readable, gauge.last() + 1)?;
+    let readable = summary.readable;
+    let positions = gauge.last() + 1;
+    writeln!(out, "readable positions {readable} of {positions}")?;
     put_spot(out, "lowest", summary.lowest)?;
     put_spot(out, "highest", summary.highest)
 }

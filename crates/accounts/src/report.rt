@@ -3,7 +3,7 @@ ghost use Rattle.std.specs.Prelude.{Ok, string_bytes};
 ghost use Rattle.accounts.specs.Failures.{Puts, Tells};
 ghost use Rattle.accounts.specs.Reports.{record_lines, report_of};
 
-use crate::lines::{put_again, put_length, put_summary};
+use crate::lines::put_summary;
 use crate::stack::Layers;
 use crate::stack::puts::put_stack;
 use records::record::{Record, check};
@@ -19,10 +19,11 @@ const RECORD_NAME: u8 = 1;
 fn put_record(heap: Global, out: &mut String, record: Record<'_>) -> Result<(), Failure>
     ensures { Puts (string_bytes out.old) (Ok (record_lines record.entry.bytes.now record.entry.name)) result (string_bytes out.new) }
 {
-    put_length(out, record.bytes().len())?;
+    let length = record.bytes().len();
+    writeln!(out, "record of {length} bytes")?;
     put_summary(out, &record)?;
     if packs_again(heap, record)? {
-        put_again(out, record.bytes().len())?;
+        writeln!(out, "packed again: the same {length} bytes")?;
     } else {
         writeln!(out, "packed again: other bytes")?;
     }

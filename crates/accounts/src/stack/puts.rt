@@ -1,8 +1,8 @@
 // What is told of a stack.
-ghost use Rattle.std.specs.Prelude.{◌≡◌, ◌++◌, Ok, Err, string_bytes, MatchResult, OnOk};
+ghost use Rattle.std.specs.Prelude.{◌≡◌, Ok, Err, string_bytes, MatchResult};
 ghost use Rattle.gauges.specs.Made.{TentOf};
 ghost use Rattle.accounts.specs.Failures.{Puts};
-ghost use Rattle.accounts.specs.Reports.{step_heading, beam_heading, beam_name, coarse_lines, stepped, beam_verdict, layered};
+ghost use Rattle.accounts.specs.Reports.{beam_name, coarse_lines, stepped, beam_verdict, layered};
 
 use crate::lines::put_gauge;
 use crate::stack::{Beam, Layers};
@@ -12,33 +12,18 @@ use layers::coarse::Coarse;
 use layers::step::Step;
 use layers::sum::Sum;
 use sheets::failure::Failure;
-use std::alloc::AllocError;
 use std::fmt::Write;
 use terms::refusal::Refusal;
 
 // The gauge's name of the beam; the record has 1.
 const BEAM_NAME: u8 = 2;
 
-// The heading of a gauge that is rounded down.
-fn put_step(out: &mut String, size: u32) -> Result<(), AllocError>
-    ensures { OnOk result (string_bytes out.new ≡ string_bytes out.old ++ step_heading size) }
-{
-    writeln!(out, "rounded down to steps of {size}:")
-}
-
-// The heading of a gauge under the beam.
-fn put_beam(out: &mut String) -> Result<(), AllocError>
-    ensures { OnOk result (string_bytes out.new ≡ string_bytes out.old ++ beam_heading) }
-{
-    writeln!(out, "with the bow of the beam added:")
-}
-
 // The gauge rounded down to a step.
 fn put_coarse<G: Gauge + Drop>(out: &mut String, gauge: G, size: u32) -> Result<(), Failure>
     ensures { Puts (string_bytes out.old) (coarse_lines (G.Gauge.meaning gauge) size) result (string_bytes out.new) }
 {
     let step = Step::new(size)?;
-    put_step(out, size)?;
+    writeln!(out, "rounded down to steps of {size}:")?;
     put_gauge(out, &Coarse::over(gauge, step))?;
     Ok(())
 }
@@ -73,7 +58,7 @@ pub fn put_stack<G: Gauge + Drop>(out: &mut String, gauge: G, layers: Layers) ->
         (None, Some(size)) => put_coarse(out, gauge, size),
         (Some(beam), step) => {
             let tent = beam_over(&gauge, beam)?;
-            put_beam(out)?;
+            writeln!(out, "with the bow of the beam added:")?;
             put_stepped(out, Sum::of(gauge, tent), step)
         }
     }
