@@ -20,7 +20,7 @@ use terms::refusal::Refusal;
 // The name of the record's gauge.
 const NAME: u8 = 1;
 
-// A run's course and what the survey then tells; before the first touch 0 stands for each figure.
+// A run's course and what the survey then tells; before the first touch 0 stands for each figure, since C has no Option.
 #[repr(C)]
 #[derive(Clone, Copy)]
 pub struct Figures {

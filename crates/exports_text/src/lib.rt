@@ -1,4 +1,4 @@
-// The transcript for callers that are not Rattle.
+// The transcript for callers that are not Rattle: numbers for answers, and a length beside the buffer, as C takes them.
 #![tactic(auto)]
 
 ghost use Rattle.std.specs.Prelude.{◌≡◌, ◌≤◌, ◌++◌, length, drop};

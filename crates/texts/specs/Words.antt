@@ -1,5 +1,5 @@
 -- The words of a text: the longest runs of bytes that are no white space.
-use Rattle.std.specs.Prelude.{ℕ, suc, Bool, true, false, cond, not, ◌||◌, List, [], ◌∷◌, ◌==◌}
+use Rattle.std.specs.Prelude.{ℕ, Bool, true, cond, ◌||◌, List, [], ◌∷◌, ◌==◌}
 
 -- white space: space, tab, line feed, carriage return
 abbrev pub is_blank : ℕ → Bool
@@ -19,13 +19,3 @@ before_first b (w ∷ ws) = (b ∷ w) ∷ ws
 abbrev pub words : List ℕ → List (List ℕ)
 words [] = []
 words (b ∷ bs) = cond (is_blank b) (words bs) (cond (begins_blank bs) ((b ∷ []) ∷ words bs) (before_first b (words bs)))
-
--- whether a byte is white space, or is none
-abbrev pub is_kind : Bool → ℕ → Bool
-is_kind true b = is_blank b
-is_kind false b = not (is_blank b)
-
--- how many bytes at the front are white space, or are none
-abbrev pub run_of : Bool → List ℕ → ℕ
-run_of blank [] = 0
-run_of blank (b ∷ bs) = cond (is_kind blank b) (suc (run_of blank bs)) 0

@@ -20,6 +20,7 @@ pub fn number(digits: &[u8]) -> Option<u32>
     if !has_digits(digits.len()) {
         return None;
     }
+    // A loop, since in a `try_fold` nothing bounds the number so far, and the sum is not proved to fit.
     let mut n = 0;
     for digit in digits {
         n = 10 * n + char::from(*digit).to_digit(10)?;

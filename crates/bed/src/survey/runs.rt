@@ -26,6 +26,7 @@ pub(crate) fn repeat_high<G: Gauge>(gauge: &G, log: &mut Log, budget: u32) -> Co
     ensures answer { result ≡ (run (G.Gauge.meaning gauge.now).reading (state_of log.old) budget).answer }
     ensures state { state_of log.new ≡ (run (G.Gauge.meaning gauge.now).reading (state_of log.old) budget).after }
 {
+    // Counted by hand, since the loop has no other end than a stop, and `made` is in its answer.
     let mut made = 0;
     let stop = loop {
         match place_next(log, made, budget) {
