@@ -12,7 +12,7 @@ use sheets::repack::packs_again;
 use std::alloc::Global;
 use std::fmt::Write;
 
-// The gauge's name of the record, `record_name` of this crate's definitions; `policies` names its own, and neither crate rests on the other.
+// The gauge's name of the record, `record_name` of this crate's definitions; `policies` and `transcripts` name their own, and none of the three rests on another.
 const RECORD_NAME: u8 = 1;
 
 // What an accepted record says, and that packing it again gives the same bytes.

@@ -11,7 +11,7 @@ use logs::setting::Setting;
 use surveys::answers::Answer;
 use surveys::calls::Call;
 
-// Opens the survey and makes the calls one by one.
+// Opens the survey and makes the calls one by one. The public call stands on this contract alone, so that a wrong edit of it fails as a fact: a rule of the project.
 fn work<G: Gauge>(gauge: G, setting: Setting, calls: &[Call], answers: &mut [Answer]) -> Survey<G>
     ensures gauge { result.gauge ≡ gauge }
     ensures law { Law (worked (G.Gauge.meaning gauge) setting calls.now answers.old answers.new) (state_of result.log) }

@@ -10,7 +10,7 @@ use terms::limits::{LAST_MAX, SLACK_MAX, SLOPE_MAX, TOUCHES_MAX, is_height};
 // The places of a table of touches.
 pub const PLACES: usize = TOUCHES_MAX as usize;
 
-// Whether the three numbers of a line are within their limits.
+// Whether the three numbers of a line are within their limits. Not by the test of a sheet, which tells what is wrong: touches rest on no list of heights.
 fn is_within_limits(line: Line) -> bool
     ensures { Decides result (WithinLimits line) }
 {
@@ -33,7 +33,7 @@ fn do_follow(line: Line, touches: &[Touch]) -> bool
     requires { line.last ≤ last_max }
     ensures { Decides result (AllFollow line 0 touches.now) }
 {
-    // A loop, since `all` carries nothing from one touch to the next.
+    // A loop, since `all` carries no position on and a `try_fold` would hide the early answer in an Option.
     let mut from = 0;
     for touch in touches {
         if !does_follow(line, from, *touch) {

@@ -30,7 +30,7 @@ fn insert_at<T: Copy>(items: &mut [T], count: usize, at: usize, item: T)
     requires room { count < length items.old }
     ensures { items.new ≡ inserted (take count items.old) at item ++ drop (count + 1) items.old }
 {
-    // Element by element: the table is a fixed one, and takes no heap.
+    // One touch at a time is lent and changed, a rule of the project: a `rotate_right` would move each of them twice.
     let mut carried = item;
     for i in at..count + 1 {
         let slot = &mut items[i];
@@ -40,7 +40,7 @@ fn insert_at<T: Copy>(items: &mut [T], count: usize, at: usize, item: T)
     }
 }
 
-// Puts the touch in at its place in rising order, and leaves the places after the touches as they were.
+// Puts the touch in at its place in rising order, and leaves the places after the touches as they were. The touches are a fixed table, so their count is beside it.
 pub fn insert_touch(table: &mut [Touch], count: usize, touch: Touch)
     requires { count < length table.old }
     ensures is { table.new ≡ insert touch (take count table.old) ++ drop (count + 1) table.old }

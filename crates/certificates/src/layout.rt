@@ -1,4 +1,5 @@
 // Where the fields of a certificate lie, in bits: the line, the tolerance, the count, the floor's position, the ceiling, then the touches.
+// The line stands as in a record, by constants of its own: either format may change without the other.
 ghost use Rattle.std.specs.Prelude.{◌≡◌, ◌+◌, ◌*◌, ◌<◌};
 
 use fields::Field;

@@ -10,6 +10,7 @@ fn work(rt: &HostRuntime) -> anyhow::Result<()> {
     run(rt, read_tolerance(env::args(rt)?)?)
 }
 
+// An error stands after the program's own name, which no answer of `main` would print.
 fn main(rt: HostRuntime) -> ExitCode {
     match work(&rt) {
         Ok(()) => ExitCode::SUCCESS,

@@ -58,6 +58,7 @@ impl End<'_> {
     fn do_rooms_agree(&self, clerk: &mut Clerk) -> Result<bool, AllocError> {
         let bits = 98usize.wrapping_add(28usize.wrapping_mul(self.other.touches.len()));
         let exact = bits.div_ceil(8);
+        // A loop: `all` has no place for want of memory.
         for length in [0, exact.wrapping_sub(1), exact, exact.wrapping_add(5)] {
             if !self.do_certificates_agree(clerk, length)? {
                 return Ok(false);

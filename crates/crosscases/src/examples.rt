@@ -16,7 +16,7 @@ use transcripts::print::print;
 use views::looks::Look;
 use views::words::IntoNaive;
 
-// A worked example.
+// A worked example. An enum and no list of closures: the first that disagrees is printed by its name.
 #[derive(Clone, Copy, Debug)]
 pub enum Example {
     NeighboursKeepTheLaw,
@@ -80,6 +80,7 @@ fn is_judged(heap: Global, bytes: &[u8], verdict: Result<(), Denial>) -> Result<
 
 // 3 and −2 at slope 5: lawful; with a pad bit 6; with −3 8 at 1 and 0.
 fn small_records(heap: Global) -> Result<bool, AllocError> {
+    // A loop: `all` has no place for want of memory.
     for (end, verdict) in [
         (0xE0, Ok(())),
         (0xE1, Err(Denial::bare(6))),

@@ -1,4 +1,4 @@
-// The kinds of cases, in the order in which they are checked.
+// The kinds of cases, in the order in which they are checked. Each is written out: a constant's value can call no function.
 use crate::case::Kind;
 use crate::figures::Tests;
 use crate::looks::Looks;

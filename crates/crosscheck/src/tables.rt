@@ -12,7 +12,7 @@ const HIGHEST: u16 = HEIGHT_MAX as u16;
 // The positions of the longest bed.
 const POSITIONS: u32 = LAST_MAX + 1;
 
-// Which heights are touched.
+// Which heights are touched: data, as the kinds are constants and those can hold no closure.
 #[derive(Clone, Copy)]
 pub enum Heights {
     // Any two keep the law.
@@ -42,6 +42,7 @@ fn height_of(x: i32) -> i16 {
 fn draw_lawful(heap: Global, chance: &mut Chance, line: Line) -> Result<Vec<i16>, AllocError> {
     let mut base = height_of(chance.swing(HIGHEST));
     let mut heights = Vec::new(heap);
+    // A loop: each height goes on from the one before.
     for _ in 0..POSITIONS {
         base = height_of(i32::from(base) + chance.swing(line.slope));
         let over = chance.between(0, line.slack);

@@ -11,7 +11,7 @@ pub enum Damage {
     Cut,
     // More bytes at the end.
     Longer,
-    // Any value in the field.
+    // Any value in the field, of these four.
     Last,
     Slope,
     Slack,

@@ -4,7 +4,7 @@ use naive::laws::Sheet;
 use naive::terms::{HIGHEST, MARK};
 use std::alloc::{AllocError, Global};
 
-// What a sheet looks like. All but the last keep the law.
+// What a sheet looks like: data, since the kinds of cases are constants and those can hold no closure. All but the last keep the law.
 #[derive(Clone, Copy, PartialEq, Eq, Debug)]
 pub enum Shape {
     // One height.

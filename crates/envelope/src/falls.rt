@@ -12,7 +12,7 @@ impl<'t> Touched<'t> {
     {
         let mut falls = [0; PLACES];
         let mut low = i32::MAX;
-        // By index: of the places that `iter_mut` has lent a proof knows the number alone.
+        // By index: after an adapter of `iter_mut`, as `rev` and `zip` are, nothing is known of what was written.
         for i in (0..self.touches.len()).rev() {
             low = lower_fall(low, self.line.slope, self.touches[i]);
             falls[i] = low;

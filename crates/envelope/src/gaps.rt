@@ -12,7 +12,7 @@ use caps::Summit;
 #[derive(Drop)]
 pub struct Gaps<'t, 'f> {
     seen: Touched<'t>,
-    // For each place, the least of height + slope × position over the touches from there on.
+    // For each place, the least of height + slope × position over the touches from there on: a table beside the touches, which are lent.
     falls: &'f [i32],
     // The touches before this place lie behind. It is a place, and no slice of those ahead: what is proved of a walk names those behind too.
     at: usize,
@@ -73,7 +73,7 @@ impl<'t> Touched<'t> {
         }
     }
 
-    // The gaps of the line, from the lowest on.
+    // The gaps of the line, from the lowest on. That something is touched is asked, and no type: it would be made of the floor that `look` and `lowest_open` have.
     pub fn gaps<'f>(&self, falls: &'f [i32]) -> Gaps<'t, 'f>
         requires some { 0 < length self.now.touches.now }
         requires table { Falls self.now.line self.now.touches.now falls.now }

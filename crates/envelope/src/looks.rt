@@ -77,7 +77,7 @@ impl<'t> Touched<'t> {
 pub fn is_settled(outlook: Option<Outlook>, tolerance: u16) -> bool
     ensures { result ≡ settled_by outlook tolerance }
 {
-    // Before the first touch there is neither floor nor ceiling: the test takes the Option apart.
+    // The Option is taken apart here, a rule of the project: before the first touch there is neither floor nor ceiling.
     match outlook {
         Some(seen) => seen.ceiling <= bound_over(seen.floor, tolerance),
         None => false,

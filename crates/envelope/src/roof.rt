@@ -131,16 +131,16 @@ impl<'t> Touched<'t> {
         with_slack(far_end, self.line.slack)
     }
 
-    // The summit of a gap with touches on the right only: its far end.
+    // The summit of a gap with touches on the right only: its far end. Not one with `beyond`: a sign to pass says less than the two names.
     pub(crate) fn ahead(&self, right: i32, from: u16) -> Summit
         requires end { from ≤ self.now.line.last }
         requires line { unsigned_abs right ≤ line_max }
         ensures { result ≡ record { cap = (right -ℤ pos (self.now.line.slope * from)) +ℤ pos self.now.line.slack; place = from } }
     {
-        let far_end = Summit {
+        let near_end = Summit {
             cap: right - climb(self.line.slope, from),
             place: from,
         };
-        with_slack(far_end, self.line.slack)
+        with_slack(near_end, self.line.slack)
     }
 }

@@ -20,6 +20,7 @@ impl<'t> Touched<'t> {
     pub fn new(line: Line, touches: &'t [Touch]) -> Option<Touched<'t>>
         ensures { SeenAsAsked line touches.now result }
     {
+        // An `if`, since in a closure of `then` it would not be known that the test was passed.
         if are_touches(line, touches) {
             Some(Touched { line, touches })
         } else {

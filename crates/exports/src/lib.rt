@@ -17,7 +17,7 @@ use surveys::answers::{Course, Report};
 use terms::limits::TOUCHES_MAX;
 use terms::refusal::Refusal;
 
-// The name of the record's gauge.
+// The name of the record's gauge, as `transcripts` has it; neither crate rests on the other.
 const NAME: u8 = 1;
 
 // A run's course and what the survey then tells; before the first touch 0 stands for each figure, since C has no Option.

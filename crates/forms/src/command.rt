@@ -24,7 +24,7 @@ pub fn read_tolerance(mut args: Args) -> anyhow::Result<u32> {
     }
 }
 
-// The bytes of the record's file, read to the bound of records. `reports` reads its file by the same lines: one text would be a crate under both for four lines.
+// The bytes of the record's file, read to the bound of records. `reports` and `survey` read by the same lines: the crate under all three would be longer than they.
 fn read_record(rt: &HostRuntime) -> anyhow::Result<Vec<u8>> {
     let mut bytes = Vec::new(rt.alloc());
     fs::open(rt, RECORD_PATH)?

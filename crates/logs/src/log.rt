@@ -17,7 +17,7 @@ pub struct Notes {
     pub line: Line,
     pub tolerance: u16,
     pub limit: u16,
-    // The first `count` places of the table hold the touches.
+    // The first `count` places of the table hold the touches; the table is a fixed one, since the device has no heap.
     pub count: u16,
     pub touches: [Touch; PLACES],
 }

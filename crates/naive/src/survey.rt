@@ -29,7 +29,7 @@ pub struct Report {
 pub enum Answer {
     // To high, left and at.
     Touched(Touch),
-    // To run: how many touches it made, and the number of its stop.
+    // To run: how many touches it made, and why it made no more.
     Ran { made: u64, stop: Denial },
     // To tol.
     Set,

@@ -24,7 +24,7 @@ use terms::refusal::Refusal;
 // The name of the record's gauge.
 const GAUGE_NAME: u8 = 1;
 
-// The longest certificate: 98 bits and 28 for each of 256 touches, in whole bytes.
+// The longest certificate: 98 bits and 28 for each of 256 touches, in whole bytes. No `div_ceil`, and no call to the layout of certificates: a constant's value can call nothing.
 const CERTIFICATE_MAX: usize = (98 + 28 * TOUCHES_MAX as usize + 7) / 8;
 
 // Room for the longest certificate.
@@ -35,6 +35,7 @@ fn blank(heap: Global) -> Result<Vec<u8>, AllocError>
 }
 
 // The certificate of a survey in memory of its own, or why there is none.
+// A refusal is an answer beside the form, which is printed all the same, and no error of the printing: so a Result within a Result, here and below.
 fn certificate(heap: Global, log: &Log) -> Result<Result<Vec<u8>, Refusal>, AllocError>
     ensures { IfOk result (λ c. as_list vec_items c ≡ certificate_told (state_of log.now)) }
 {

@@ -9,7 +9,7 @@ const USAGE: &str =
 
 // The next word, which must be there.
 fn word(args: &mut Args) -> anyhow::Result<String> {
-    args.next().ok_or(anyhow!(USAGE))
+    args.next().ok_or_else(|| anyhow!(USAGE))
 }
 
 // The next word as a number.
@@ -29,11 +29,6 @@ fn beam(args: &mut Args) -> anyhow::Result<Beam> {
     })
 }
 
-// Whether a word is there and says that.
-fn says(word: &Option<String>, text: &str) -> bool {
-    word.as_ref().is_some_and(|word| word.as_str() == text)
-}
-
 // The layers over a record: a beam, then a step, each alone or both.
 fn read_layers(args: &mut Args) -> anyhow::Result<Layers> {
     let mut layers = Layers {
@@ -41,11 +36,11 @@ fn read_layers(args: &mut Args) -> anyhow::Result<Layers> {
         step: None,
     };
     let mut word = args.next();
-    if says(&word, "--beam") {
+    if word.as_deref() == Some("--beam") {
         layers.beam = Some(beam(args)?);
         word = args.next();
     }
-    if says(&word, "--step") {
+    if word.as_deref() == Some("--step") {
         layers.step = Some(number(args)?);
         word = args.next();
     }

@@ -17,7 +17,7 @@ pub enum Command {
     Pack { path: String },
 }
 
-// The bytes of a file, read to the bound of records.
+// The bytes of a file, read to the bound of records. `forms` and `survey` read by the same lines: the crate under all three would be longer than they.
 fn read_record(rt: &HostRuntime, path: &str) -> anyhow::Result<Vec<u8>> {
     let mut bytes = Vec::new(rt.alloc());
     fs::open(rt, path)?
@@ -31,7 +31,7 @@ pub fn report(rt: &HostRuntime, bytes: &[u8], layers: Layers) -> anyhow::Result<
     Ok(accounts::report::report(rt.alloc(), bytes, layers)?)
 }
 
-// The record of the sheet that a text says.
+// The record of the sheet that a text says, in the wider language of `sheets::text`; `accounts::packing::pack_text` takes the narrower one.
 pub fn pack_text(rt: &HostRuntime, text: &str) -> anyhow::Result<Vec<u8>> {
     let sheet = sheets::text::parse(rt.alloc(), text)?;
     Ok(sheets::pack::pack(rt.alloc(), sheet.slope, sheet.slack, &sheet.heights)?)

@@ -11,6 +11,7 @@ fn work(rt: &HostRuntime) -> anyhow::Result<()> {
     run(rt, read_command(env::args(rt)?)?)
 }
 
+// An error stands after the program's own name, which no answer of `main` would print.
 fn main(rt: HostRuntime) -> ExitCode {
     match work(&rt) {
         Ok(()) => ExitCode::SUCCESS,

@@ -29,6 +29,15 @@ impl From<AllocError> for Failure {
     }
 }
 
+// A text finds no place only where memory is wanting.
+impl From<fmt::Error> for Failure {
+    ghost from_gives = { λ _ r. r ≡ NoMemory };
+
+    fn from(_error: fmt::Error) -> Failure {
+        Failure::NoMemory
+    }
+}
+
 impl fmt::Display for Failure {
     fn fmt<W: fmt::Write>(&self, f: &mut fmt::Formatter<W>) -> fmt::Result {
         match self {

@@ -16,10 +16,11 @@ fn fill(bytes: &mut [u8], slope: u32, slack: u32, heights: &[i32])
     requires room { length bytes.old ≡ 6 + 2 * length heights.now }
     ensures { bytes.new ≡ record_of (sheet_with slope slack heights.now) }
 {
+    // The sheet is lawful and the buffer long enough, so that it is not refused.
     let _ = write(bytes, slope, slack, heights);
 }
 
-// The bytes of a sheet's record.
+// The bytes of a sheet's record. Slope, slack and heights come apart, as `write` takes them: before the test there is no fact that a type could hold.
 pub fn pack(heap: Global, slope: u32, slack: u32, heights: &[i32]) -> Result<Vec<u8>, Failure>
     ensures made { PackedAs slope slack heights.now result }
     ensures lawful { OnOk result (verdict_of (sheet_with slope slack heights.now) ≡ Ok tt) }

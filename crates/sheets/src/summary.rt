@@ -21,7 +21,7 @@ pub struct Summary {
     pub highest: Option<Spot>,
 }
 
-// The spot so far, unless its height is outranked by that of one more.
+// The spot so far, unless its height is outranked by that of one more. Its own step: the pick of `pick` goes over a list, and here a count and two picks share each reading.
 fn led<F: Fn(i32, i32) -> bool>(best: Option<Spot>, spot: Spot, outranked: F) -> Option<Spot>
     ghost rank: { ℤ → ℤ }
     requires callable { F.IsAlwaysCallable outranked }
@@ -61,7 +61,6 @@ pub fn summarize<G: Gauge>(gauge: &G) -> Summary
         lowest: None,
         highest: None,
     };
-    // A loop and no `fold`: that the count stays in range hangs on the positions passed, which the fold's closure does not see.
     for position in 0..gauge.last() + 1 {
         so_far = with_reading(so_far, position, gauge.read(position));
     }

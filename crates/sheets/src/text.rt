@@ -29,6 +29,7 @@ fn height(word: &str, position: usize) -> Result<i32, TextError>
 
 // The sheet that a text says, its words parted by white space.
 pub fn parse(heap: Global, text: &str) -> Result<Sheet, TextError> {
+    // A word that is wanting is read as the empty one, which is no number.
     let mut words = text.split_whitespace();
     let slope = number(words.next().unwrap_or(""), TextError::NoSlope)?;
     let slack = number(words.next().unwrap_or(""), TextError::NoSlack)?;

@@ -50,7 +50,7 @@ fn strip_end(from: u16, last: u16) -> Option<u16>
     (from <= last).then_some(last)
 }
 
-// The gaps beside some touches. The walk tells their summits, the touches their ends.
+// The gaps beside some touches. The walk tells their summits, the touches their ends. A loop: a touch takes a summit from the walk only where it ends a gap.
 fn spans_beside(heap: Global, seen: &Touched<'_>) -> Result<Vec<Span>, AllocError>
     requires { 0 < length seen.now.touches.now }
     ensures { IfOk result (λ v. v.items ≡ spans_from seen.now.line seen.now.touches.now 0 seen.now.touches.now) }

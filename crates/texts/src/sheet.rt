@@ -7,7 +7,7 @@ ghost use Rattle.texts.specs.declared.sheet.TextError.TheVariants.{NoMemory};
 
 use crate::number::number;
 use crate::words::next_word;
-use std::alloc::{AllocFailed, Global};
+use std::alloc::{AllocError, AllocFailed, Global};
 use std::error::Error;
 use std::fmt;
 use terms::limits::UNREAD;
@@ -35,6 +35,14 @@ impl fmt::Display for TextError {
 }
 
 impl Error for TextError {}
+
+impl From<AllocError> for TextError {
+    ghost from_gives = { λ _ r. r ≡ NoMemory };
+
+    fn from(_error: AllocError) -> TextError {
+        TextError::NoMemory
+    }
+}
 
 impl<T: Drop> From<AllocFailed<T>> for TextError {
     ghost from_gives = { λ _ r. r ≡ NoMemory };

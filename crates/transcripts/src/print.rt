@@ -17,7 +17,7 @@ use surveys::answers::Answer;
 use surveys::calls::Call;
 use terms::refusal::Refusal;
 
-// The name of the record's gauge.
+// The name of the record's gauge, by this crate's own definitions; `accounts`, `policies` and `exports` name it alike, and none of the four rests on another.
 const GAUGE_NAME: u8 = 1;
 
 // The most bytes of a record.

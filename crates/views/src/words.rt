@@ -143,10 +143,7 @@ impl IntoNaive for Stop {
     type Word = Denial;
 
     fn into_naive(self) -> Denial {
-        match self {
-            Stop::GaugeFault(fault) => Denial::from(fault.into_naive()),
-            _ => Denial::bare(self.number()),
-        }
+        Refusal::from(self).into_naive()
     }
 }
 
