@@ -7,7 +7,7 @@ use surveys::answers::Report;
 use terms::refusal::Refusal;
 
 // Last 10, slope 5, slack 0.
-const SHEET: [i32; 11] = [0, 4, 8, 10, 9, 5, 6, 9, 7, 3, 0];
+pub(crate) const SHEET: [i32; 11] = [0, 4, 8, 10, 9, 5, 6, 9, 7, 3, 0];
 
 fn touched(position: u16, height: i16) -> Result<Touch, Refusal> {
     Ok(Touch { position, height })

@@ -1,3 +1,4 @@
+use crate::example::SHEET;
 use bed::survey::Survey;
 use bed::work::work_through;
 use caps::Touch;
@@ -12,9 +13,6 @@ use surveys::calls::Call;
 use terms::fault::Fault;
 use terms::limits::UNREAD;
 use terms::refusal::Refusal;
-
-// Last 10, slope 5, slack 0.
-const SHEET: [i32; 11] = [0, 4, 8, 10, 9, 5, 6, 9, 7, 3, 0];
 
 // Slope 5, slack 0; no reading at 2.
 const HOLED: [i32; 3] = [0, 1, UNREAD];

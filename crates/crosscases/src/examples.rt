@@ -96,8 +96,8 @@ fn small_records(heap: Global) -> Result<bool, AllocError> {
 
 // The naive survey of the sheet at tolerance 3, settled.
 fn naive_settled(heap: Global) -> Result<naive::survey::Survey, AllocError> {
-    let sheet = sheet(heap, 5, 0, &[0, 4, 8, 10, 9, 5, 6, 9, 7, 3, 0])?;
-    let asked = [0, 1, 2, 3, 4, 5, 6, 7, 8, 9, 10];
+    let sheet = sheet(heap, 5, 0, &HEIGHTS.map(i64::from))?;
+    let asked: Vec<u32> = (0..11).collect(heap)?;
     let gauge = sheet.meaning(heap, 1, &asked)?;
     let mut survey = naive::survey::Survey::open(heap, gauge.line, 3, 256);
     let _ = ruled(survey.call(heap, &gauge, Call::Run(9)))?;

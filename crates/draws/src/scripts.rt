@@ -62,7 +62,9 @@ fn push_line(
     match chance.below(10) {
         0 => Ok(()),
         1 => push_noise(chance, input),
-        2 | 3 => input.extend_from_slice(ODD_LINES[chance.below(22) as usize].as_bytes()),
+        2 | 3 => input.extend_from_slice(ODD_LINES[chance.below(
+            ODD_LINES.len() as u32,
+        ) as usize].as_bytes()),
         4 => input.extend_from_slice(call_text(heap, call, 5)?.as_bytes()),
         _ => input.extend_from_slice(call_text(heap, call, 0)?.as_bytes()),
     }

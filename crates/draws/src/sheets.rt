@@ -39,6 +39,7 @@ fn kept(x: i64) -> i64 {
 
 // A slope for a sheet.
 fn draw_slope(chance: &mut Chance, shape: Shape) -> u16 {
+    // Drawn for every shape: what is drawn after it, and so the stored output, hangs on it.
     let most = [3, 40, 400, 4_000][chance.below(4) as usize];
     if shape == Shape::Extreme {
         [1, 39_999, 40_000][chance.below(3) as usize]
@@ -109,6 +110,7 @@ pub fn draw_sheet(
         rising: chance.once_in(2),
     };
     let mut heights = Vec::new(heap);
+    // A loop: each height is drawn where the one before left the pen.
     for _ in 0..=last {
         heights.push(pen.height(chance, shape, slack))?;
         pen.advance(chance, shape, slope);

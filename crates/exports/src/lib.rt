@@ -86,10 +86,7 @@ fn run(bytes: &[u8], tolerance: u32, budget: u32, figures: &mut Figures) -> Resu
 fn number_of<T: Copy>(answer: Result<T, Refusal>) -> u8
     ensures { result ≡ number_of answer }
 {
-    match answer {
-        Ok(_) => 0,
-        Err(refusal) => refusal.number(),
-    }
+    answer.err().map_or(0, |refusal| refusal.number())
 }
 
 // Tests a record that is to be the gauge of that name: 0, or the number of the refusal.

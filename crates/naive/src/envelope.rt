@@ -44,7 +44,7 @@ impl Touches<'_> {
     }
 
     pub fn is_touched(&self, x: u32) -> bool {
-        self.list.iter().any(|touch| touch.position == x)
+        self.height_at(x).is_some()
     }
 
     // The smallest, over all touches, of touched height + slope × distance + slack.

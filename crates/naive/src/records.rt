@@ -57,8 +57,7 @@ fn check_shape(bytes: &[u8]) -> Result<(), Denial> {
 pub fn check(heap: Global, bytes: &[u8], name: u8) -> Result<(), Failure> {
     check_shape(bytes)?;
     sheet_of(heap, bytes)?.check_heights()?;
-    check_name(name)?;
-    Ok(())
+    Ok(check_name(name)?)
 }
 
 // The record of a sheet.
@@ -77,6 +76,5 @@ pub fn record_of(heap: Global, sheet: &Sheet) -> Result<Vec<u8>, AllocError> {
 pub fn write(heap: Global, buffer: &mut [u8], sheet: &Sheet) -> Result<u64, Failure> {
     sheet.check()?;
     let record = record_of(heap, sheet)?;
-    let length = put_front(buffer, &record)?;
-    Ok(length)
+    Ok(put_front(buffer, &record)?)
 }

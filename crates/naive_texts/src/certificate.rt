@@ -38,6 +38,5 @@ pub fn certify(heap: Global, survey: &Survey, buffer: &mut [u8]) -> Result<u64, 
         return Err(Failure::from(Denial::bare(20)));
     }
     let certificate = bytes(heap, survey, report.floor, report.ceiling)?;
-    let length = put_front(buffer, &certificate)?;
-    Ok(length)
+    Ok(put_front(buffer, &certificate)?)
 }

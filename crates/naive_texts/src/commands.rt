@@ -25,8 +25,8 @@ pub fn call(line: &[u8]) -> Option<Call> {
         b"ask" => Some(Call::Ask),
         _ => number_after(line, b"at ")
             .map(Call::At)
-            .or(number_after(line, b"run ").map(Call::Run))
-            .or(number_after(line, b"tol ").map(Call::Tol)),
+            .or_else(|| number_after(line, b"run ").map(Call::Run))
+            .or_else(|| number_after(line, b"tol ").map(Call::Tol)),
     }
 }
 

@@ -3,7 +3,7 @@ use crate::commands::{call, verb};
 use naive::gauges::Meaning;
 use naive::records::{check, sheet_of};
 use naive::survey::{Survey, result_number};
-use naive::terms::{count_of, ruled};
+use naive::terms::{Touch, count_of, ruled};
 use std::alloc::{AllocError, Global};
 
 // One line: verb, result number, touches, floor position, floor, ceiling; the last three are - before the first touch.
@@ -14,13 +14,14 @@ fn printed_line(
     survey: &Survey,
 ) -> Result<String, AllocError> {
     let touches = survey.touches.len();
-    if let Ok(report) = survey.ask() {
-        let place = report.floor.position;
-        let floor = report.floor.height;
-        let ceiling = report.ceiling;
-        return format!(in heap; "{verb} {number} {touches} {place} {floor} {ceiling}\n");
+    match survey.ask() {
+        Ok(report) => {
+            let Touch { position, height } = report.floor;
+            let ceiling = report.ceiling;
+            format!(in heap; "{verb} {number} {touches} {position} {height} {ceiling}\n")
+        }
+        Err(_) => format!(in heap; "{verb} {number} {touches} - - -\n"),
     }
-    format!(in heap; "{verb} {number} {touches} - - -\n")
 }
 
 // What a line that is not empty prints, after its call was made.

@@ -17,7 +17,7 @@ mod tests {
     // Two heights that break the law.
     const BROKEN: [u8; 10] = [0x00, 0x10, 0x00, 0x50, 0x00, 0x00, 0x00, 0x3f, 0xff, 0xd0];
 
-    // Checks what is printed for an input over that sheet.
+    // Checks what is printed for an input over that sheet. The runtime and the heap come apart: a function below a test has the right to stop by `Abort` alone.
     fn prints(rt: &impl Abort, heap: Global, input: &[u8], text: &str) -> Result<(), Fail> {
         let out = print(heap, &SHEET, input)?;
         assert_eq!(rt; out.as_str(), text);
