@@ -27,6 +27,13 @@ fn find(bytes: &[u8], wanted: u8) -> Option<usize>
     bytes.iter().position(|byte| *byte == wanted)
 }
 
+// Where the line end stands that ends a line. A wrong edit of it so fails at its own contract.
+fn line_end(bytes: &[u8]) -> Option<usize>
+    ensures { result ≡ position (λ b. b == line_end) bytes.now }
+{
+    find(bytes, LINE_END)
+}
+
 // The command of a line that is one word.
 fn read_alone(line: Part<'_>) -> Command<'_>
     ensures { order result ≡ alone (piece line.entry) }
@@ -108,7 +115,7 @@ pub(crate) fn next_line(input: &[u8], from: usize) -> Option<Part<'_>>
 {
     let place = from + line_start(&input[from..])?;
     let rest = &input[place..];
-    let length = find(rest, LINE_END).unwrap_or(rest.len());
+    let length = line_end(rest).unwrap_or(rest.len());
     Some(Part {
         bytes: &rest[..length],
         place,

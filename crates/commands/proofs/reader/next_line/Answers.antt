@@ -6,4 +6,4 @@ pub returns-in_err-place : goal.returns-in_err-place
 returns-in_err-place c = rw c.from_residual.ensures (no_line c.args.input.now c.args.from _ refl c.in_err-place.ensures)
 
 pub returns : goal.returns
-returns c = next_cut c.args.input.now c.args.from _ refl c.in_ok-place.field-0 c.in_ok-place.ensures _ c.find.result c.unwrap_or-length.result refl c.find.ensures c.unwrap_or-length.ensures
+returns c = next_cut c.args.input.now c.args.from _ refl c.in_ok-place.field-0 c.in_ok-place.ensures _ c.line_end.result c.unwrap_or-length.result refl c.line_end.ensures c.unwrap_or-length.ensures
