@@ -91,9 +91,17 @@ num_inside f h a o w r =
     (mod_low (num f a o) w (num f (a + o) w) (num_lt f h (a + o) w))
 
 -- one byte more
-pub field_byte_more : (bs : List ℕ) (b : ℕ) → b < 256 → field_of (bs ++ b ∷ []) 0 (8 * length (bs ++ b ∷ [])) ≡ field_of bs 0 (8 * length bs) * 256 + b
+pub field_byte_more : (bs : List ℕ) (s i : ℕ) → s ≤ i → get_or bs i 0 < 256 → field_of bs (8 * s) (8 * (i + 1 - s)) ≡ field_of bs (8 * s) (8 * (i - s)) * 256 + get_or bs i 0
 unfolding field_of
-field_byte_more bs b small =
+field_byte_more bs s i l small =
+    let e : 8 * (i + 1 - s) ≡ 8 * (i - s) + 8 = omega arith in
+    let g : 8 * s + 8 * (i - s) ≡ 8 * i = omega arith in
+    rw (e, num_split (bit bs) (8 * s) (8 * (i - s)) 8, g, num_byte bs i small)
+
+-- one byte put after the others
+pub field_byte_added : (bs : List ℕ) (b : ℕ) → b < 256 → field_of (bs ++ b ∷ []) 0 (8 * length (bs ++ b ∷ [])) ≡ field_of bs 0 (8 * length bs) * 256 + b
+unfolding field_of
+field_byte_added bs b small =
     let n : ℕ = length bs in
     let e : 8 * length (bs ++ b ∷ []) ≡ 8 * n + 8 = omega (arith, length-append bs (b ∷ [])) in
     let z : 0 + 8 * n ≡ 8 * n = zero-add (8 * n) in

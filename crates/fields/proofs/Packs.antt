@@ -1,5 +1,5 @@
 -- Packed fields read back, and are the only bytes that do.
-use Rattle.std.proofs.Common.{◌≡◌, ℕ, ◌+◌, ◌-◌, ◌*◌, ◌/◌, ◌%◌, ◌^◌, ◌<◌, ◌≤◌, List, [], ◌∷◌, length, get_or, sym, refl, ap, ◌∙◌, ⊎_elim, add_assoc, zero-add, arith}
+use Rattle.std.proofs.Common.{◌≡◌, ℕ, ◌+◌, ◌-◌, ◌*◌, ◌/◌, ◌%◌, ◌^◌, ◌<◌, ◌≤◌, List, [], ◌∷◌, ◌++◌, length, get_or, sym, refl, ap, ◌∙◌, ⊎_elim, add_assoc, zero-add, arith}
 use native.Mathlib.Nat.{zero-div}
 use Rattle.std.proofs.lemmas.Nat.{mod_below}
 use Rattle.std.proofs.lemmas.Bool.{lt-ltb, le-ltb, cases_lt}
@@ -22,6 +22,17 @@ bits_of_rest f fs k =
     let l : f.width ≤ f.width + k = omega arith in
     let e : f.width + k - f.width ≡ k = omega arith in
     rw (le-ltb (f.width + k) f.width l, e)
+
+-- one field out of the middle of many
+pub bits_of_after : (fs gs : List Field) (k : ℕ) → bits_of (fs ++ gs) (width_of fs + k) ≡ bits_of gs k
+bits_of_after [] gs k = ap (bits_of gs) (zero-add k)
+bits_of_after (f ∷ fs) gs k =
+    let e : f.width + width_of fs + k ≡ f.width + (width_of fs + k) = omega arith in
+    ap (bits_of (f ∷ (fs ++ gs))) e ∙ bits_of_rest f (fs ++ gs) (width_of fs + k) ∙ bits_of_after fs gs k
+
+pub read_back : (fs : List Field) (f : Field) (gs : List Field) → f.value < 2 ^ f.width → num (bits_of (fs ++ f ∷ gs)) (width_of fs) f.width ≡ f.value
+read_back fs f gs small =
+    num-value (bits_of (fs ++ f ∷ gs)) (width_of fs) f.width f.value small (λ k l. bits_of_after fs (f ∷ gs) k ∙ bits_of_first f gs k l)
 
 -- a bit function that reads as the fields has the fields' bits
 pub bits_from_reads : (b : ℕ → ℕ) → ((i : ℕ) → b i < 2) → (a : ℕ) (fs : List Field) → Reads b a fs → (i : ℕ) → b (a + i) ≡ bits_of fs i

@@ -11,7 +11,7 @@ use Rattle.std.specs.List.{FoldsTo}
 use denote.Param.Members.{Mut}
 use denote.Ref.{Bor}
 use Rattle.fields.specs.Bits.{field_of}
-use Rattle.fields.proofs.Laws.{field_none, field_byte_more, field_lt}
+use Rattle.fields.proofs.Laws.{field_none, field_byte_added, field_lt}
 use Rattle.fields.proofs.whole_bytes.Goals as goal
 
 abbrev Bytes : List ℕ → Type 0
@@ -37,7 +37,7 @@ one_more bs whole b h small few =
     let e : whole ≡ field_of bs 0 (8 * length bs) = h (front_bytes bs b small) (omega (arith, n)) in
     let m : whole < 2 ^ 24 = omega (arith, e, field_lt bs 0 (8 * length bs), pow_mono n) in
     ap (λ x. bit_or x b) (shl_whole whole 24 8 32 m (omega arith))
-    ∙ or_shifted whole 8 b (last_byte bs b small) ∙ ap (λ x. x * 256 + b) e ∙ sym (field_byte_more bs b (last_byte bs b small))
+    ∙ or_shifted whole 8 b (last_byte bs b small) ∙ ap (λ x. x * 256 + b) e ∙ sym (field_byte_added bs b (last_byte bs b small))
 
 folded : {S F : Type 0} (steps : S → Option (Bor ℕ) → S → Type 0) (g : Mut F (ℕ × (Bor ℕ × Unit {0})) ℕ) (f : F) (s : S) (all : List ℕ) (r : ℕ)
     → AlwaysYields steps (λ y. y.now) s all
