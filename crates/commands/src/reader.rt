@@ -3,7 +3,7 @@ ghost use Rattle.std.specs.Prelude.{◌≡◌, ◌+◌, ◌^◌, ◌<◌, ◌≤
 ghost use Rattle.commands.specs.Pieces.{piece};
 ghost use Rattle.commands.specs.Lines.{line_end, NextLine};
 ghost use Rattle.commands.specs.Theorems.{LinesAreTheInput, CallsAsWritten, NumbersReadBack};
-ghost use Rattle.commands.specs.Orders.{order, alone, numbered, before_space, after_space, order_of, NextOrder};
+ghost use Rattle.commands.specs.Orders.{order, number_of, alone, numbered, before_space, after_space, order_of, NextOrder};
 
 use crate::command::Command;
 use crate::part::Part;
@@ -32,6 +32,13 @@ fn line_end(bytes: &[u8]) -> Option<usize>
     ensures { result ≡ position (λ b. b == line_end) bytes.now }
 {
     find(bytes, LINE_END)
+}
+
+// The number that 1 to 5 decimal digits write. A wrong edit of it so fails at its own contract.
+fn number_said(digits: &[u8]) -> Option<u32>
+    ensures { result ≡ number_of digits.now }
+{
+    number(digits)
 }
 
 // The command of a line that is one word.
@@ -102,7 +109,7 @@ pub(crate) fn read_line(line: Part<'_>) -> Command<'_>
         return read_alone(line);
     };
     let digits = rest_of(line, n);
-    let Some(number) = number(digits.bytes) else {
+    let Some(number) = number_said(digits.bytes) else {
         return Command::Unknown { line };
     };
     read_numbered(line, first_word(line, n), digits, number)
