@@ -1,24 +1,25 @@
 -- The certificate that is cut out of a buffer, and what it is where the probing stopped.
-use Rattle.std.proofs.Common.{◌≡◌, ℕ, ◌+◌, ◌*◌, ◌/◌, ◌≤◌, Bool, true, false, cond, List, [], ◌∷◌, ◌++◌, length, take, drop, Some, None, Ok, Err, Option, Result, nat_lt, sym, refl, ap, ◌∙◌, subst, append_assoc, append-nil, arith}
+use Rattle.std.proofs.Common.{◌≡◌, ℕ, ◌+◌, ◌*◌, ◌/◌, ◌≤◌, Bool, true, false, cond, ◌≢◌, List, [], ◌∷◌, ◌++◌, length, take, drop, Some, None, Ok, Err, Option, Result, nat_lt, sym, refl, ap, ◌∙◌, subst, append_assoc, append-nil, arith}
 use Rattle.std.proofs.lemmas.List.{take_at}
 use Rattle.std.proofs.lemmas.Bool.{cond-false, le-ltb}
 use Rattle.terms.specs.Limits.{touches_max}
 use Rattle.terms.specs.declared.refusal.Refusal.{Refusal}
-use Rattle.terms.specs.declared.refusal.Refusal.TheVariants.{NotSettled, BufferTooShort}
+use Rattle.terms.specs.declared.refusal.Refusal.TheVariants.{AlreadySettled, NotSettled, BufferTooShort}
 use Rattle.caps.specs.declared.Touch.{Touch}
 use Rattle.caps.specs.declared.Line.{Line}
 use Rattle.caps.specs.declared.Outlook.{Outlook}
 use Rattle.caps.specs.Outlooks.{outlook, settled_by, seen}
-use Rattle.terms.specs.Meaning.{Meaning}
+use Rattle.terms.specs.Meaning.{Meaning, Reading}
 use Rattle.records.specs.Laws.{record_meaning}
-use Rattle.surveys.specs.States.{Readings, State, standing, opened}
-use Rattle.surveys.specs.Calls.{high}
+use Rattle.surveys.specs.States.{Readings, State, standing, settled, full, opened}
+use Rattle.surveys.specs.Calls.{high_place, high}
 use Rattle.fields.specs.Bits.{Field, width_of}
 use Rattle.fields.proofs.Packs.{length-packed}
 use Rattle.certificates.specs.Layout.{touch_fields, certificate_fields, certificate_with, certificate_of, certificate_size}
 use Rattle.certificates.specs.Verdict.{settled_or, with_room, written, certificate_verdict, left_by, certificate_leaves}
 use Rattle.policies.specs.Lines.{known_text}
 use Rattle.policies.specs.Probes.{room, after_highs, touches_told}
+use Rattle.policies.proofs.Highs.{by_tests}
 use Rattle.policies.specs.Policies.{bytes_or, certificate_bytes, certificate_told, or_stop, Closed, probed, survey_text, gauge_name, gauge_of, text_unless, Ends}
 
 -- where there is room for it, a certificate is refused only by 19 and 20
@@ -89,6 +90,32 @@ by_test false o bytes e h = refl
 unsettled : (t : ℕ) (o : Option Outlook) (bytes : List ℕ) (e : Refusal) → Err e ≡ bytes_or bytes (settled_or t o) → settled_by o t ≡ false
 unsettled t None bytes e h = refl
 unsettled t (Some o) bytes e h = by_test (settled_by (Some o) t) o bytes e h
+
+-- a survey that is not settled has no certificate, and the stop is the answer; a settled one has its own
+told_open : (t : ℕ) (o : Option Outlook) (bytes : List ℕ) (stop : Refusal) → false ≡ settled_by o t → Err stop ≡ or_stop stop (bytes_or bytes (settled_or t o))
+told_open t None bytes stop e = refl
+told_open t (Some o) bytes stop e = ap (λ b. or_stop stop (bytes_or bytes (cond b (Ok o) (Err NotSettled)))) e
+
+told_settled : (t : ℕ) (o : Option Outlook) (bytes : List ℕ) (stop : Refusal) → true ≡ settled_by o t → bytes_or bytes (settled_or t o) ≡ or_stop stop (bytes_or bytes (settled_or t o))
+told_settled t None bytes stop e = let z : ◌≡◌ {A = ℕ} 0 1 = cc in absurd (omega arith)
+told_settled t (Some o) bytes stop e =
+    let v : settled_or t (Some o) ≡ Ok o = ap (λ b. cond b (Ok o) (Err NotSettled)) (sym e) in
+    ap (bytes_or bytes) v ∙ ap (λ x. or_stop stop (bytes_or bytes x)) (sym v)
+
+-- 13 is the refusal of a settled survey alone
+stops_open : (s : State) (c : Bool) (p : ℕ) (r : Reading) (stop : Refusal) → (by_tests s false c p r).answer ≡ Err stop → stop ≢ AlreadySettled
+stops_open s true p r stop h e = let z : ◌≡◌ {A = ℕ} 0 1 = cc in absurd (omega arith)
+stops_open s false p (Ok y) stop h e = let z : ◌≡◌ {A = ℕ} 0 1 = cc in absurd (omega arith)
+stops_open s false p (Err f) stop h e = let z : ◌≡◌ {A = ℕ} 0 1 = cc in absurd (omega arith)
+
+-- what is answered by the stop is the certificate, or the stop
+module _ (s : State) (p : ℕ) (r : Reading) (stop : Refusal) (c : Result (List ℕ) Refusal) (settles : stop ≡ AlreadySettled → c ≡ certificate_told s) (refuses : stop ≢ AlreadySettled → c ≡ Err stop) where
+  by_stop : (b : Bool) → b ≡ settled s → (by_tests s b (full s) p r).answer ≡ Err stop → c ≡ or_stop stop (certificate_told s)
+  by_stop true e h = let is : stop ≡ AlreadySettled = cc in settles is ∙ told_settled s.tolerance (standing s) (certificate_bytes s.line s.tolerance s.touches) stop e
+  by_stop false e h = refuses (stops_open s (full s) p r stop h) ∙ told_open s.tolerance (standing s) (certificate_bytes s.line s.tolerance s.touches) stop e
+
+pub closes : (R : Readings) (s : State) (stop : Refusal) (c : Result (List ℕ) Refusal) → (high R s).answer ≡ Err stop → (stop ≡ AlreadySettled → c ≡ certificate_told s) → (stop ≢ AlreadySettled → c ≡ Err stop) → c ≡ or_stop stop (certificate_told s)
+closes R s stop c h settles refuses = by_stop s (high_place s.line s.touches) (R (high_place s.line s.touches)) stop c settles refuses (settled s) refl h
 
 pub closed : (R : Readings) (s : State) (stop : Refusal) (c v : Result (List ℕ) Refusal) → (high R s).answer ≡ Err stop → v ≡ certificate_told s → c ≡ or_stop stop v → Closed R s c
 closed R s stop c (Ok bytes) h v e = subst (Closed R s) (sym e) v

@@ -11,7 +11,7 @@ use Rattle.surveys.proofs.Later.{length-insert}
 use Rattle.policies.specs.Probes.{room, after_highs, made_text, told_after, touches_told}
 
 -- high by whether the survey is settled, whether it is full, and what the gauge reads
-abbrev by_tests : State → Bool → Bool → ℕ → Reading → Outcome (Result Touch Refusal)
+abbrev pub by_tests : State → Bool → Bool → ℕ → Reading → Outcome (Result Touch Refusal)
 by_tests s b c p r = cond b (refused s AlreadySettled) (cond c (refused s LimitReached) (by_reading s p r))
 
 one_less : (s : State) (b c : Bool) (p : ℕ) (r : Reading) (t : Touch) → c ≡ full s → length s.touches ≤ s.limit → Ok t ≡ (by_tests s b c p r).answer → room s ≡ suc (room (by_tests s b c p r).after)

@@ -1,12 +1,13 @@
 // A sheet's way from its record to its certificate.
-ghost use Rattle.std.specs.Prelude.{◌≡◌, ◌++◌, IfOk, vec_items, vec_len, OnOk};
+ghost use Rattle.std.specs.Prelude.{◌≡◌, ◌++◌, Ok, Err, IfOk, vec_items, vec_len, OnOk, ◌≢◌};
 ghost use Rattle.terms.specs.Limits.{touches_max};
+ghost use Rattle.terms.specs.declared.refusal.Refusal.TheVariants.{AlreadySettled};
 ghost use Rattle.surveys.specs.States.{opened, opening_refusal};
 ghost use Rattle.logs.specs.Logs.{state_of};
 ghost use Rattle.logs.specs.Settings.{SetAsAsked};
 ghost use Rattle.certificates.specs.Layout.{certificate_size};
 ghost use Rattle.policies.specs.Lines.{known_text};
-ghost use Rattle.policies.specs.Policies.{as_list, certificate_told, or_stop, Closed, probed, survey_text, text_unless, Ends, form_text, PolicyOf};
+ghost use Rattle.policies.specs.Policies.{as_list, certificate_told, Closed, probed, survey_text, text_unless, Ends, form_text, PolicyOf};
 
 use crate::lines::put_known;
 use crate::paper::Paper;
@@ -46,11 +47,15 @@ fn certificate(heap: Global, log: &Log) -> Result<Result<Vec<u8>, Refusal>, Allo
     }))
 }
 
-// The certificate of a survey; where there is none, the refusal that the probing stopped with.
+// The certificate of a survey where the probing stopped since it is settled; else the refusal that it stopped with, and no memory is asked for.
 fn close(heap: Global, log: &Log, stop: Refusal) -> Result<Result<Vec<u8>, Refusal>, AllocError>
-    ensures { IfOk result (λ c. as_list vec_items c ≡ or_stop stop (certificate_told (state_of log.now))) }
+    ensures settled { stop ≡ AlreadySettled → IfOk result (λ c. as_list vec_items c ≡ certificate_told (state_of log.now)) }
+    ensures refused { stop ≢ AlreadySettled → result ≡ Ok (Err stop) }
 {
-    Ok(certificate(heap, log)?.or(Err(stop)))
+    match stop {
+        Refusal::AlreadySettled => certificate(heap, log),
+        _ => Ok(Err(stop)),
+    }
 }
 
 // Prints what is known of a survey.
@@ -74,8 +79,10 @@ pub fn survey_line<G: Gauge + Drop, P: Paper>(
 {
     let mut survey = Survey::open(gauge, setting);
     let stop = probe(heap, &mut survey, paper)?;
+    // The certificate first: where memory for it is wanting, what is known is not printed.
+    let certificate = close(heap, survey.log(), stop)?;
     print_known(heap, paper, survey.log())?;
-    Ok(close(heap, survey.log(), stop)?)
+    Ok(certificate)
 }
 
 // The tolerance with the limit of 256 touches.
