@@ -21,6 +21,13 @@ fn place_next(log: &Log, made: u32, budget: u32) -> Result<u16, Stop>
     Ok(position)
 }
 
+// The course of a run that made so many touches.
+fn course(made: u32, stop: Stop) -> Course
+    ensures { result ≡ record { made = made; stop = stop } }
+{
+    Course { made, stop }
+}
+
 // Repeats high, at most `budget` times.
 pub(crate) fn repeat_high<G: Gauge>(gauge: &G, log: &mut Log, budget: u32) -> Course
     ensures answer { result ≡ (run (G.Gauge.meaning gauge.now).reading (state_of log.old) budget).answer }
@@ -28,16 +35,15 @@ pub(crate) fn repeat_high<G: Gauge>(gauge: &G, log: &mut Log, budget: u32) -> Co
 {
     // Counted by hand, since the loop has no other end than a stop, and `made` is in its answer.
     let mut made = 0;
-    let stop = loop {
+    loop {
         match place_next(log, made, budget) {
             Ok(position) => {
                 if let Err(fault) = touch(gauge, log, position) {
-                    break Stop::from(fault);
+                    break course(made, Stop::from(fault));
                 }
             }
-            Err(stop) => break stop,
+            Err(stop) => break course(made, stop),
         }
         made += 1;
-    };
-    Course { made, stop }
+    }
 }

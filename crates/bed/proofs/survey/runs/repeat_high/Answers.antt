@@ -26,7 +26,7 @@ returns-in-Err-touch g c =
     let inv = c.loop-position.invariant in
     let all = run_faults R s k c.args.budget c.in-Ok.position c.in-Ok.ensures.is inv.0 c.in-Err-touch.fault (state_of c.touch.new.log) c.in-Err-touch.ensures.answer c.touch.ensures.state ∙ sym inv.1 in
     record {
-      answer = ap (λ (x : Stop). (stopped k x s).answer) c.from-stop.ensures ∙ ap (λ (o : Outcome Course). o.answer) all;
+      answer = c.course.ensures ∙ ap (λ (x : Stop). (stopped k x s).answer) c.from.ensures ∙ ap (λ (o : Outcome Course). o.answer) all;
       state = ap (λ (o : Outcome Course). o.after) all;
     }
 
@@ -36,4 +36,4 @@ returns-in-Err g c =
     let s = state_of c.loop-position.log in
     let inv = c.loop-position.invariant in
     let all = run_stops R s c.loop-position.made c.args.budget c.in-Err.stop c.in-Err.ensures.is ∙ sym inv.1 in
-    record { answer = ap (λ (o : Outcome Course). o.answer) all; state = ap (λ (o : Outcome Course). o.after) all }
+    record { answer = c.course-in-Err.ensures ∙ ap (λ (o : Outcome Course). o.answer) all; state = ap (λ (o : Outcome Course). o.after) all }
