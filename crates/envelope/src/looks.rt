@@ -9,6 +9,13 @@ use crate::touched::Touched;
 use caps::{Outlook, Summit, Touch};
 use pick::{first_above, first_highest};
 
+// The pick of the touches by height: the floor with its position.
+fn highest_touch(touches: &[Touch]) -> Option<Touch>
+    ensures { result ≡ floor_touch touches.now }
+{
+    first_highest(touches.iter().copied())
+}
+
 // The larger of the floor and the summit's cap.
 fn over_floor(floor: Touch, summit: Option<Summit>) -> i32
     ensures { result ≡ over floor.height summit }
@@ -25,11 +32,11 @@ fn bound_over(floor: Touch, tolerance: u16) -> i32
 }
 
 impl<'t> Touched<'t> {
-    // The pick of the touches by height: the floor with its position.
+    // The floor with its position.
     fn floor(&self) -> Option<Touch>
         ensures { result ≡ floor_touch self.now.touches.now }
     {
-        first_highest(self.touches.iter().copied())
+        highest_touch(self.touches)
     }
 
     // The pick of the gaps by largest cap: the untouched position of largest cap, the lowest on a tie.
