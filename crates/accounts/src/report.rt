@@ -16,13 +16,13 @@ use std::fmt::Write;
 const RECORD_NAME: u8 = 1;
 
 // What an accepted record says, and that packing it again gives the same bytes.
-fn put_record(heap: Global, out: &mut String, record: Record<'_>) -> Result<(), Failure>
-    ensures { Puts (string_bytes out.old) (Ok (record_lines record.entry.bytes.now record.entry.name)) result (string_bytes out.new) }
+fn put_record(heap: Global, out: &mut String, accepted: Record<'_>) -> Result<(), Failure>
+    ensures { Puts (string_bytes out.old) (Ok (record_lines accepted.entry.bytes.now accepted.entry.name)) result (string_bytes out.new) }
 {
-    let length = record.bytes().len();
+    let length = accepted.bytes().len();
     writeln!(out, "record of {length} bytes")?;
-    put_summary(out, &record)?;
-    if packs_again(heap, record)? {
+    put_summary(out, &accepted)?;
+    if packs_again(heap, accepted)? {
         writeln!(out, "packed again: the same {length} bytes")?;
     } else {
         writeln!(out, "packed again: other bytes")?;
