@@ -16,7 +16,7 @@ use Rattle.accounts.specs.Lines.{and_lines, stack_lines}
 use Rattle.accounts.specs.Reports.{record_name, record_lines, Lines, with_heading, step_heading, beam_heading, coarse_lines, stepped, beam_verdict, beamed, layered, after_text, report_of}
 use Rattle.accounts.specs.Failures.{Puts}
 
-abbrev whole : List ℕ → Result (List ℕ) Refusal
+abbrev pub whole : List ℕ → Result (List ℕ) Refusal
 whole text = Ok text
 
 pub coarse_put : (old mid new : List ℕ) (m n : Meaning) (q k : ℕ) → step_verdict q ≡ Ok tt → mid ≡ old ++ step_heading q → n ≡ m → k ≡ q → new ≡ and_lines mid (stack_lines (coarse_meaning k n)) → after_text old (coarse_lines m q) ≡ Ok new

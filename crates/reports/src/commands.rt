@@ -28,7 +28,7 @@ fn read_record(rt: &HostRuntime, path: &str) -> anyhow::Result<Vec<u8>> {
 
 // The report of an accepted record, or its refusal.
 pub fn report(rt: &HostRuntime, bytes: &[u8], layers: Layers) -> anyhow::Result<String> {
-    Ok(accounts::report::report(rt.alloc(), bytes, layers)?)
+    Ok(accounts::report::report(rt.alloc(), bytes, layers)??)
 }
 
 // The record of the sheet that a text says, in the wider language of `sheets::text`; `accounts::packing::pack_text` takes the narrower one.
