@@ -23,7 +23,7 @@ pub struct Meaning {
 // A fault of the gauge of a name, 0 for a layer.
 fn fault(cause: Cause, position: u32, name: u8) -> Fault {
     Fault {
-        cause,
+        cause: cause as u8,
         position,
         name,
         layers: 0,

@@ -13,17 +13,18 @@ pub const MOST: i64 = 40_000;
 // The greatest last position.
 pub const FARTHEST: u32 = 4_000;
 
-// Why a reading has no height.
+// Why a reading has no height, with the number of each cause.
 #[derive(Clone, Copy, PartialEq, Eq, Debug)]
 pub enum Cause {
-    BeyondLast,
-    NoReading,
+    BeyondLast = 1,
+    NoReading = 2,
 }
 
 // A reading without a height.
 #[derive(Clone, Copy, PartialEq, Eq, Debug)]
 pub struct Fault {
-    pub cause: Cause,
+    // The number of its cause, since the numbers are compared too.
+    pub cause: u8,
     // The position asked.
     pub position: u32,
     // The name of the gauge that failed, 0 for a layer.

@@ -3,7 +3,7 @@ use caps::Summit;
 use gauges::gauge::Gauge;
 use naive::envelope::Place;
 use naive::survey::{Answer, Call, Report};
-use naive::terms::{Cause, Denial, Fault, Line, Told, Touch};
+use naive::terms::{Denial, Fault, Line, Told, Touch};
 use surveys::answers::Stop;
 use terms::refusal::Refusal;
 
@@ -56,23 +56,13 @@ impl IntoNaive for usize {
     }
 }
 
-impl IntoNaive for terms::fault::Cause {
-    type Word = Cause;
-
-    fn into_naive(self) -> Cause {
-        match self {
-            terms::fault::Cause::Beyond => Cause::BeyondLast,
-            terms::fault::Cause::Unread => Cause::NoReading,
-        }
-    }
-}
-
+// The number of the cause, and the rest as it is.
 impl IntoNaive for terms::fault::Fault {
     type Word = Fault;
 
     fn into_naive(self) -> Fault {
         Fault {
-            cause: self.cause.into_naive(),
+            cause: self.cause.number(),
             position: self.position,
             name: self.gauge,
             layers: self.layers,
