@@ -53,6 +53,7 @@ pub trait Subject {
 }
 
 // A kind of cases: how many are drawn, for which last positions, and what they are about.
+#[derive(Clone, Copy)]
 pub struct Kind<S> {
     pub name: &'static str,
     pub cases: u32,

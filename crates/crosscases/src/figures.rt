@@ -106,6 +106,7 @@ fn draw_odd_tent(chance: &mut Chance) -> Tent {
 }
 
 // The tests of a table, a tent, a step and an opening.
+#[derive(Clone, Copy)]
 pub struct Tests {
     pub shape: Shape,
 }

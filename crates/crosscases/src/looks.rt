@@ -15,6 +15,7 @@ impl Case for Look {
 }
 
 // Touches on a line, about one in so many positions.
+#[derive(Clone, Copy)]
 pub struct Looks {
     pub shape: Shape,
     pub one_in: u32,

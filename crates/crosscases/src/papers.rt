@@ -30,6 +30,7 @@ impl Case for Paper {
 }
 
 // The tests of a record.
+#[derive(Clone, Copy)]
 pub struct Papers {
     pub shape: Shape,
     pub damage: Damage,
@@ -85,6 +86,7 @@ impl Case for Writing {
 }
 
 // The writing of a record.
+#[derive(Clone, Copy)]
 pub struct Writings {
     pub shape: Shape,
 }

@@ -28,6 +28,7 @@ impl Case for Talk {
 const LINES: u16 = 24;
 
 // The command program's text over a record; where a length is given, the input is cut or filled up to it.
+#[derive(Clone, Copy)]
 pub struct Talks {
     pub over: Papers,
     pub length: Option<usize>,

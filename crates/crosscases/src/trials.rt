@@ -228,7 +228,7 @@ fn draw_tent(chance: &mut Chance, last: u16) -> naive::gauges::Tent {
 }
 
 // Up to so many calls to a survey.
-#[derive(Drop)]
+#[derive(Clone, Copy)]
 pub struct Calls {
     pub shape: Shape,
     pub stack: Stack,
@@ -256,6 +256,7 @@ impl Subject for Calls {
 }
 
 // A survey that is run until it is settled, the gauge answers a fault or 256 touches are made; at any tolerance where none is given.
+#[derive(Clone, Copy)]
 pub struct Runs {
     pub shape: Shape,
     pub stack: Stack,

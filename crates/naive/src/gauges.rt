@@ -20,6 +20,31 @@ pub struct Meaning {
     pub spots: Vec<Spot>,
 }
 
+// How two gauges are joined.
+#[derive(Clone, Copy, PartialEq, Eq, Debug)]
+pub enum Joint {
+    Higher,
+    Sum,
+}
+
+impl Joint {
+    // The height of two joined: the greater, or the sum kept within −20,000 and 20,000.
+    fn height(self, first: i64, second: i64) -> i64 {
+        match self {
+            Joint::Higher => first.max(second),
+            Joint::Sum => first.wrapping_add(second).clamp(-HIGHEST, HIGHEST),
+        }
+    }
+
+    // The slope or slack of two joined: the greater, or the sum but at most 40,000.
+    fn bound(self, first: i64, second: i64) -> i64 {
+        match self {
+            Joint::Higher => first.max(second),
+            Joint::Sum => first.wrapping_add(second).min(MOST),
+        }
+    }
+}
+
 // A fault of the gauge of a name, 0 for a layer.
 fn fault(cause: Cause, position: u32, name: u8) -> Fault {
     Fault {
@@ -190,51 +215,37 @@ impl Meaning {
         })
     }
 
-    // The spots of two gauges that were asked the same positions, joined.
-    fn joined<F: Fn(Result<(i64, i64), Fault>) -> Reading>(
+    // Higher or Sum of two gauges that were asked the same positions.
+    pub fn joined(
         &self,
         heap: Global,
+        joint: Joint,
         second: &Meaning,
-        join: F,
-    ) -> Result<Vec<Spot>, AllocError>
-        requires { F.IsAlwaysCallable join }
-    {
-        let last = self.line.last.min(second.line.last);
-        self.spots
+    ) -> Result<Meaning, AllocError> {
+        let line = Line {
+            last: self.line.last.min(second.line.last),
+            slope: joint.bound(self.line.slope, second.line.slope),
+            slack: joint.bound(self.line.slack, second.line.slack),
+        };
+        let spots = self
+            .spots
             .iter()
             .zip(&second.spots)
             .map(|(a, b)| Spot {
                 position: a.position,
-                reading: join(both_heights(last, *a, *b)),
+                reading: both_heights(line.last, *a, *b).map(|(x, y)| joint.height(x, y)),
             })
-            .collect(heap)
+            .collect(heap)?;
+        Ok(Meaning { line, spots })
     }
 
     // Higher: the greater height; the greater slope and slack.
     pub fn higher(&self, heap: Global, second: &Meaning) -> Result<Meaning, AllocError> {
-        Ok(Meaning {
-            line: Line {
-                last: self.line.last.min(second.line.last),
-                slope: self.line.slope.max(second.line.slope),
-                slack: self.line.slack.max(second.line.slack),
-            },
-            spots: self.joined(heap, second, |both| both.map(|(x, y)| x.max(y)))?,
-        })
+        self.joined(heap, Joint::Higher, second)
     }
 
     // Sum: heights added, kept within −20,000 and 20,000; slopes and slacks added, at most 40,000.
     pub fn sum(&self, heap: Global, second: &Meaning) -> Result<Meaning, AllocError> {
-        let slope = self.line.slope.wrapping_add(second.line.slope);
-        let slack = self.line.slack.wrapping_add(second.line.slack);
-        Ok(Meaning {
-            line: Line {
-                last: self.line.last.min(second.line.last),
-                slope: slope.min(MOST),
-                slack: slack.min(MOST),
-            },
-            spots: self.joined(heap, second, |both| {
-                both.map(|(x, y)| x.wrapping_add(y).clamp(-HIGHEST, HIGHEST))
-            })?,
-        })
+        self.joined(heap, Joint::Sum, second)
     }
 }
