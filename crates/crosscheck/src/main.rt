@@ -1,12 +1,13 @@
 // The pass over the touches against the naive way over all positions and all touches, on tables drawn by chance.
 #![tactic(auto)]
 
+mod compare;
+mod naive_way;
 mod tables;
 
 use draws::chance::Chance;
-use tables::{Heights, Kind};
+use tables::{Heights, Kind, Table};
 use terms::limits::{LAST_MAX, SLACK_MAX, SLOPE_MAX};
-use views::looks::Look;
 
 const LAST: u16 = LAST_MAX as u16;
 
@@ -79,12 +80,12 @@ struct Tally {
 
 impl Tally {
     // Whether the two ways agree on a table. The first that they do not agree on is printed.
-    fn judge(&mut self, rt: &HostRuntime, table: &Look) -> anyhow::Result<bool> {
-        if table.do_texts_agree(rt.alloc())? {
+    fn judge(&mut self, rt: &HostRuntime, table: &Table) -> anyhow::Result<bool> {
+        if table.do_ways_agree(rt.alloc())? {
             return Ok(true);
         }
         if self.disagreed == 0 {
-            let Look {
+            let Table {
                 line,
                 touches,
                 tolerance,

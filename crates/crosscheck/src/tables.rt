@@ -1,10 +1,13 @@
 // Tables of touches, drawn by chance.
+ghost use Rattle.std.specs.Prelude.{◌≤◌, vec_len, IfOk};
+ghost use Rattle.terms.specs.Limits.{touches_max};
+
 use caps::sound::PLACES;
+use caps::table::insert_touch;
 use caps::{Line, Touch};
 use draws::chance::Chance;
 use std::alloc::{AllocError, Global};
 use terms::limits::{HEIGHT_MAX, LAST_MAX};
-use views::looks::Look;
 
 // The highest height.
 const HIGHEST: u16 = HEIGHT_MAX as u16;
@@ -20,7 +23,16 @@ pub enum Heights {
     Free,
 }
 
+// Touches on a line, in rising order of position, and a tolerance.
+#[derive(Drop)]
+pub struct Table {
+    pub line: Line,
+    pub touches: Vec<Touch>,
+    pub tolerance: u16,
+}
+
 // A kind of table: how many are drawn, and from what.
+#[derive(Clone, Copy)]
 pub struct Kind {
     pub name: &'static str,
     pub tables: u32,
@@ -58,26 +70,36 @@ fn draw_free(heap: Global, chance: &mut Chance) -> Result<Vec<i16>, AllocError> 
         .collect(heap)
 }
 
-// Touches positions that are drawn, as many as a table holds; in rising order.
+// Touches positions that are drawn, in the order of the draws, as many as a table holds.
 fn touch_some(
     heap: Global,
     chance: &mut Chance,
     line: Line,
     heights: &[i16],
     draws: u16,
-) -> Result<Vec<Touch>, AllocError> {
-    let mut touches: Vec<Touch> = Vec::new(heap);
+) -> Result<Vec<Touch>, AllocError>
+    ensures { IfOk result (λ touches. vec_len touches ≤ touches_max) }
+{
+    let nothing = Touch {
+        position: 0,
+        height: 0,
+    };
+    let mut touches = Vec::from_elem(heap, nothing, PLACES)?;
+    let mut count = 0;
     for _ in 0..draws {
         let position = chance.between(0, line.last);
-        let is_touched = touches.iter().any(|touch| touch.position == position);
-        if is_touched || touches.len() == PLACES {
+        let is_touched = touches[..count]
+            .iter()
+            .any(|touch| touch.position == position);
+        if is_touched || count == touches.len() {
             continue;
         }
         if let Some(height) = heights.get(position as usize).copied() {
-            touches.push(Touch { position, height })?;
+            insert_touch(&mut touches, count, Touch { position, height });
+            count += 1;
         }
     }
-    touches.sort_by_key(|touch| touch.position)?;
+    touches.truncate(count);
     Ok(touches)
 }
 
@@ -91,7 +113,7 @@ impl Kind {
     }
 
     // Draws one table, with a tolerance.
-    pub fn draw(&self, heap: Global, chance: &mut Chance) -> Result<Look, AllocError> {
+    pub fn draw(&self, heap: Global, chance: &mut Chance) -> Result<Table, AllocError> {
         let line = self.line(chance);
         let heights = match self.heights {
             Heights::Lawful => draw_lawful(heap, chance, line)?,
@@ -100,7 +122,7 @@ impl Kind {
         let draws = chance.between(self.draws.0, self.draws.1);
         let touches = touch_some(heap, chance, line, &heights, draws)?;
         let tolerance = chance.between(0, 300);
-        Ok(Look {
+        Ok(Table {
             line,
             touches,
             tolerance,

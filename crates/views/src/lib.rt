@@ -1,4 +1,4 @@
-// What both cross checks share: the proved crates' answers in the naive words, and the comparison of a look at some touches.
+// The proved crates' answers in the naive words, and the comparison of a look at some touches.
 #![tactic(auto)]
 
 pub mod looks;
