@@ -33,6 +33,8 @@ impl<'t, 'f> Iterator for Gaps<'t, 'f> {
 
     ghost remaining = { item_count rest };
 
+    // Inlined: a call for each gap costs a third of a look's time where the compiler leaves one.
+    #[inline(always)]
     fn next(&mut self) -> Option<Summit> {
         while self.at < self.seen.touches.len() {
             let seen = self.seen;
